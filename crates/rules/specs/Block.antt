@@ -1,0 +1,95 @@
+-- A block of instructions is performed. Assumes nothing.
+use mathlib.Core.Bool.{Bool}
+use mathlib.Core.Bool as B
+use mathlib.Core.List.{List, [], _∷_}
+use Prim.Native.Nat.{ℕ}
+use lib.ListN.{getD, drop}
+use lib.IntN.{ℤ, pos, _+ℤ_, _-ℤ_, _*ℤ_, natAbs}
+use lib.Signed.{ltZ, quotZ, remZ}
+use Rattle.rules.specs.Bytes.{fits, equals, isZero, truth}
+use Rattle.rules.specs.Lists.{if_then_else_}
+use Rattle.rules.specs.Chart.{State, Chart, Block, Op, push, load, store, add, subtract, multiply, quotient, remainder, less, equal, not, raise, send, unknown, Instruction, code}
+use Rattle.rules.specs.Image.{Image, isActive, variable, setVariable}
+use Rattle.rules.specs.Doing.{Doing, Done, give, done, refuse, _>>=_, _>>_, look, change, pay, outputRaised, note}
+
+abbrev pub Stack : Type 0
+Stack = List ℤ
+
+-- a block comes to its end, with this stack; or the rest of it and of the owner's run is abandoned
+pub data Ran : Type 0 where
+  ran : Stack → Ran
+  abandoned : Ran
+
+-- what follows a block or an instruction: a where it was abandoned, else f
+unfoldable pub unlessAbandoned : {A : Type 0} → Ran → A → (Stack → Doing A) → Doing A
+unlessAbandoned (ran st) a f = f st
+unlessAbandoned abandoned a f = give a
+
+unfoldable pub top : Stack → ℤ
+top st = getD st 0 (pos 0)
+
+unfoldable pub lower : Stack → ℤ
+lower st = getD st 1 (pos 0)
+
+-- a binary op takes lower, then top
+unfoldable pub binary : (ℤ → ℤ → ℤ) → Stack → Doing Ran
+binary f st = give (ran (f (lower st) (top st) ∷ drop 2 st))
+
+-- the same, or 17 where the result does not fit
+unfoldable pub checked : (ℤ → ℤ → ℤ) → Stack → Doing Ran
+checked f st = if fits (f (lower st) (top st)) then binary f st else refuse 17
+
+-- 17 where the divisor is 0
+unfoldable pub divided : Stack → Doing Ran → Doing Ran
+divided st m = if isZero (top st) then refuse 17 else m
+
+-- the owner is not there any more after a send
+unfoldable pub gone : State → Image → Bool
+gone owner im = B.not (isActive im owner)
+
+-- how an event goes to a state
+abbrev pub Sending : Type 0
+Sending = ℕ → State → Done
+
+-- for blocks in which a send is barred
+unfoldable pub noSending : Sending
+noSending e b = done
+
+module _ (sending : Sending) (owner : State) where
+  unfoldable pub instruct : Op → Instruction → Stack → Doing Ran
+  instruct push i st = give (ran (i .b ∷ st))
+  instruct load i st = do
+    im ← look
+    give (ran (variable im (i .a) ∷ st))
+  instruct store i st = do
+    change (λ im. setVariable im (i .a) (top st))
+    give (ran (drop 1 st))
+  instruct add i st = checked _+ℤ_ st
+  instruct subtract i st = checked _-ℤ_ st
+  instruct multiply i st = checked _*ℤ_ st
+  instruct quotient i st = divided st (checked quotZ st)
+  instruct remainder i st = divided st (binary remZ st)
+  instruct less i st = binary (λ x y. truth (ltZ x y)) st
+  instruct equal i st = binary (λ x y. truth (equals x y)) st
+  instruct not i st = give (ran (truth (isZero (top st)) ∷ drop 1 st))
+  instruct raise i st = do
+    note outputRaised (i .a)
+    give (ran st)
+  instruct send i st = do
+    sending (i .a) (natAbs (i .b))
+    im ← look
+    give (if gone owner im then abandoned else ran st)
+  instruct unknown i st = give (ran st)
+
+  unfoldable pub perform : Stack → List Instruction → Doing Ran
+  perform st [] = give (ran st)
+  perform st (i ∷ is) = do
+    pay
+    r ← instruct (i .op) i st
+    unlessAbandoned r abandoned (λ st′. perform st′ is)
+
+-- an action that cannot send
+unfoldable pub action : Chart → Block → Done
+action c k = do
+  perform noSending 0 [] (code c k)
+  done

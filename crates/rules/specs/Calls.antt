@@ -1,0 +1,109 @@
+-- The three calls, whole: what each answers, and every lent byte afterwards. Assumes nothing.
+use mathlib.Core.Bool.{Bool, _&&_}
+use mathlib.Core.List.{List, [], _∷_, _++_}
+use Prim.Native.Nat.{ℕ, zero, suc, _+_, _-_, _*_}
+use lib.Dec.{leb}
+use lib.ListN.{length, take, drop}
+use Rattle.rules.specs.Bytes.{Bytes, bytesOf}
+use Rattle.rules.specs.Lists.{within, _else_}
+use Rattle.rules.specs.Chart.{Chart, events}
+use Rattle.rules.specs.Accept.{_unless_next_, chartRefusal}
+use Rattle.rules.specs.Image.{Image, imageSize, accepted, freshImage}
+use Rattle.rules.specs.Doing.{Refusal, because, Now, Outcome, refused, went, mostUnits, itemSize, roomOf}
+use Rattle.rules.specs.Run.{step}
+use Rattle.rules.specs.Bound.{boundRefusal, bound}
+
+abbrev pub Board : Type 0
+Board = Bytes
+
+-- lift k's part of the board, and the board with another part there
+unfoldable pub part : Board → ℕ → Image
+part board k = take imageSize (drop (imageSize * k) board)
+
+unfoldable pub withPart : Board → ℕ → Image → Board
+withPart board k im = take (imageSize * k) board ++ im ++ drop (imageSize * k + imageSize) board
+
+-- a board of n bytes has lift k's part, else 12
+abbrev pub hasPart : ℕ → ℕ → Bool
+hasPart n k = leb k 63 && leb (imageSize * k + imageSize) n
+
+unfoldable pub partRefusal : Board → ℕ → ℕ
+partRefusal board k = 12 unless hasPart (length board) k next 0
+
+-- what a call answers, and what it leaves of the board and the trace that it was lent
+pub record Answer : Type 0 where
+  pub refusal : Refusal
+  pub units : ℕ
+  pub items : ℕ
+  pub bound : ℕ
+  pub board : Board
+  pub trace : Bytes
+
+-- the refusal's number with zero units, items and bound
+unfoldable pub numberOnly : Refusal → Board → Bytes → Answer
+numberOnly r board trace = record { refusal = r; units = 0; items = 0; bound = 0; board = board; trace = trace }
+
+-- fresh, by what its tests gave: 0, or a refusal's number
+unfoldable pub freshTested : ℕ → Chart → Board → ℕ → Answer
+freshTested zero c board k = numberOnly (because 0) (withPart board k (freshImage c)) []
+freshTested (suc r) c board k = numberOnly (because (suc r)) board []
+
+unfoldable pub freshCall : Chart → Board → ℕ → Answer
+freshCall c board k = freshTested (chartRefusal c else partRefusal board k) c board k
+
+-- the bound, by what its tests gave
+unfoldable pub boundTested : ℕ → Chart → Answer
+boundTested zero c = record { refusal = because 0; units = 0; items = 0; bound = bound c; board = []; trace = [] }
+boundTested (suc r) c = numberOnly (because (suc r)) [] []
+
+unfoldable pub boundCall : Chart → Answer
+boundCall c = boundTested (chartRefusal c else boundRefusal c) c
+
+-- 1 to 15
+unfoldable pub stepRefusal : Chart → Board → ℕ → ℕ → ℕ → ℕ
+stepRefusal c board k e allowance =
+    chartRefusal c else partRefusal board k
+    else (13 unless accepted (part board k) c next
+    14 unless within 1 (events c) e next
+    15 unless leb allowance mostUnits next 0)
+
+unfoldable pub begin : Image → Bytes → ℕ → Now
+begin im trace allowance = record { image = im; units = allowance; room = roomOf (length trace); trace = [] }
+
+unfoldable pub itemBytes : List ℕ → Bytes
+itemBytes [] = []
+itemBytes (i ∷ is) = bytesOf itemSize i ++ itemBytes is
+
+-- a step, by how it went
+unfoldable pub stepAnswer : Board → Bytes → ℕ → ℕ → Outcome (Unit {0}) → Answer
+stepAnswer board trace k allowance (refused r) = numberOnly r board trace
+stepAnswer board trace k allowance (went u n) =
+    record {
+      refusal = because 0;
+      units = allowance - n .units;
+      items = length (n .trace);
+      bound = 0;
+      board = withPart board k (n .image);
+      trace = itemBytes (n .trace) ++ drop (itemSize * length (n .trace)) trace;
+    }
+
+-- a step, by what its tests gave
+unfoldable pub stepTested : ℕ → Chart → Board → Bytes → ℕ → ℕ → ℕ → Answer
+stepTested zero c board trace k e allowance =
+    stepAnswer board trace k allowance (step c e (begin (part board k) trace allowance))
+stepTested (suc r) c board trace k e allowance = numberOnly (because (suc r)) board trace
+
+unfoldable pub stepCall : Chart → Board → Bytes → ℕ → ℕ → ℕ → Answer
+stepCall c board trace k e allowance = stepTested (stepRefusal c board k e allowance) c board trace k e allowance
+
+-- what a host has after a call: one number, and its lent bytes
+pub record Left : Type 0 where
+  pub answer : ℕ
+  pub board : Board
+  pub trace : Bytes
+
+unfoldable pub packed : Answer → ℕ
+packed a = a .refusal .number + 256 * (a .items + a .bound) + 131072 * a .units
+
+unfoldable pub left : Answer → Left
+left a = record { answer = packed a; board = a .board; trace = a .trace }

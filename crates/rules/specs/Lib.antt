@@ -1,0 +1,17 @@
+pub mod Bytes
+pub mod Lists
+pub mod Chart
+pub mod Accept
+pub mod Image
+pub mod Doing
+pub mod Block
+pub mod Search
+pub mod Fire
+pub mod Run
+pub mod Bound
+pub mod Calls
+pub mod Session
+pub mod Types
+pub mod Charts
+pub mod Cases
+pub mod MoreCases

@@ -1,0 +1,29 @@
+-- The code's types that carry limits: what a maker makes, and the paper's number for it. Assumes nothing.
+use mathlib.Core.Bool.{Bool, cond}
+use Prim.Native.Nat.{ℕ, _*_}
+use Rattle.rules.specs.Image.{imageSize}
+use Rattle.rules.specs.Accept.{countsRight}
+use Rattle.rules.specs.Calls.{hasPart}
+use Rattle.rules.specs.declared.headers.Header.{Header}
+use Rattle.rules.specs.declared.headers.Made.{Made}
+use Rattle.rules.specs.declared.headers.Made.the-variants.{Of, Outside}
+use Rattle.rules.specs.declared.images.Place.{Place}
+use Rattle.rules.specs.declared.images.Place.the-variants.{At, Missing}
+
+abbrev pub fitsOf : Header → Bool
+fitsOf h =
+    countsRight (h .states) (h .junctions) (h .segments) (h .variables) (h .events) (h .outputs) (h .instructions)
+
+abbrev pub madeOf : Header → Made
+madeOf h = cond (fitsOf h) (Of h) Outside
+
+unfoldable pub madeNumber : Made → ℕ
+madeNumber (Of h) = 0
+madeNumber Outside = 3
+
+abbrev pub placeOf : ℕ → ℕ → Place
+placeOf k n = cond (hasPart n k) (At (record { at = imageSize * k })) Missing
+
+unfoldable pub placeNumber : Place → ℕ
+placeNumber (At im) = 0
+placeNumber Missing = 12
