@@ -1,29 +1,17 @@
 -- Every worked case holds, by computation; so each one of the list does. Assumes nothing.
 use mathlib.Core.Path.{_≡_, refl}
-use mathlib.Core.Bool.{Bool, true, false, _&&_, false≢true}
-use mathlib.Core.List.{List, [], _∷_}
-use Prim.Native.Nat.{ℕ, zero, suc, _<_}
-use native.Mathlib.Nat.{le-of-suc-le-suc, not-suc-le-zero}
+use mathlib.Core.Bool.{true}
+use Prim.Native.Nat.{ℕ, _<_}
 use lib.ListN.{length, getD}
 use Rattle.rules.specs.Lists.{every}
 use Rattle.rules.specs.Cases.{Case, holds}
 use Rattle.rules.specs.MoreCases.{cases}
+use Rattle.rules.proofs.Laws.{every-at}
 use Rattle.rules.proofs.Opened.{opened}
 
 pub every-case : every holds cases ≡ true
 unfolding opened
 every-case = refl
-
-both : (a b : Bool) → a && b ≡ true → (a ≡ true) × (b ≡ true)
-both true b e = (refl, e)
-both false b e = absurd (false≢true e)
-
--- a test that passes at each of a list passes at the one at k
-pub every-at : {A : Type 0} (f : A → Bool) (xs : List A) → every f xs ≡ true → (k : ℕ) (d : A) → k < length xs → f (getD xs k d) ≡ true
-unfolding every
-every-at f [] e k d h = absurd (not-suc-le-zero h)
-every-at f (x ∷ xs) e zero d h = both (f x) (every f xs) e .0
-every-at f (x ∷ xs) e (suc k) d h = every-at f xs (both (f x) (every f xs) e .1) k d (le-of-suc-le-suc h)
 
 -- each case of the list, by its place
 pub each-case : (k : ℕ) (d : Case) → k < length cases → holds (getD cases k d) ≡ true

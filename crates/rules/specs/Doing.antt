@@ -58,10 +58,11 @@ look = λ n. went (n .image) n
 unfoldable pub change : (Image → Image) → Done
 change f = λ n. went tt (record { image = f (n .image); units = n .units; room = n .room; trace = n .trace })
 
--- one unit is paid, or 16
+-- the largest allowance, and the largest bound
 abbrev pub mostUnits : ℕ
 mostUnits = 1000000
 
+-- one unit is paid, or 16
 abbrev pub payFrom : ℕ → Done
 payFrom zero n = refused (because 16)
 payFrom (suc u) n = went tt (record { image = n .image; units = u; room = n .room; trace = n .trace })

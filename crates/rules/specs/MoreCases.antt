@@ -368,7 +368,9 @@ sessions =
     ∷ says (sessionOf chartA (1 ∷ []) ++ ascii "E") "0 25\n0 2 2 65536 65537\nbad session\n"
     ∷ says (set (sessionOf chartA (1 ∷ 1 ∷ [])) 89 69) "0 25\nbad session\n"
     -- a refused chart ends the session; a refused bound or event does not
+    ∷ says (sessionOf [] (1 ∷ [])) "1 0\n"
     ∷ says (sessionOf (take 83 chartA) (1 ∷ [])) "4 0\n"
+    ∷ says (sessionOf (blocks (at 0 1) none none none none none 1 (IN 12 1 1)) (1 ∷ [])) "11 0\n"
     ∷ says (sessionOf (sendsFirst 2) (1 ∷ 3 ∷ 1 ∷ []))
     "21 0\n0 2 2 65536 65537\n14 0 0\n0 10 7 196608 262144 196608 262145 131073 327681 65538\n"
     ∷ says (sessionOf chartA [] ++ replicate 16296 0) "0 25\nbad session\n"
