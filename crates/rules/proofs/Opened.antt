@@ -74,7 +74,7 @@ unfolding Charts.blockBytes Charts.CH Charts.ST Charts.plain Charts.leaf Charts.
 charts = tt
 
 unfoldable pub cases : Unit {0}
-unfolding Cases.same Cases.sameValues Cases.lent Cases.boardFrom Cases.boardAfter Cases.isAnswer Cases.holds Cases.eventBytes Cases.sessionOf Cases.sessionsToCheck
+unfolding Cases.sameBy Cases.lent Cases.boardFrom Cases.boardAfter Cases.isAnswer Cases.holds Cases.eventBytes Cases.sessionOf Cases.sessionsToCheck
 cases = tt
 
 unfoldable pub moreCases : Unit {0}

@@ -38,17 +38,14 @@ pub data Case : Type 0 where
 
 -- ── how a case is tried ──
 
-unfoldable pub same : List ℕ → List ℕ → Bool
-same [] [] = true
-same [] (y ∷ ys) = false
-same (x ∷ xs) [] = false
-same (x ∷ xs) (y ∷ ys) = eqb x y && same xs ys
+unfoldable pub sameBy : {A : Type 0} → (A → A → Bool) → List A → List A → Bool
+sameBy eq [] [] = true
+sameBy eq [] (y ∷ ys) = false
+sameBy eq (x ∷ xs) [] = false
+sameBy eq (x ∷ xs) (y ∷ ys) = eq x y && sameBy eq xs ys
 
-unfoldable pub sameValues : List ℤ → List ℤ → Bool
-sameValues [] [] = true
-sameValues [] (y ∷ ys) = false
-sameValues (x ∷ xs) [] = false
-sameValues (x ∷ xs) (y ∷ ys) = equals x y && sameValues xs ys
+abbrev pub same : List ℕ → List ℕ → Bool
+same xs ys = sameBy eqb xs ys
 
 -- bytes that a call is lent
 unfoldable pub lent : ℕ → Bytes
@@ -79,7 +76,7 @@ holds (stands c es active history values) =
     let im = boardAfter c es in
     all
     (same (keep (isActive im) (below 64)) active ∷ same (map (recorded im) (below (states c))) history
-    ∷ sameValues (map (variable im) (below (variables c))) values ∷ [])
+    ∷ sameBy equals (map (variable im) (below (variables c))) values ∷ [])
 holds (imaged c es i v r) =
     eqb (stepCall c (set (boardAfter c es) i v) (lent 1024) 0 1 1000000 .refusal .number) r
 holds (boarded c board n k e allowance r) = eqb (stepCall c board (lent n) k e allowance .refusal .number) r
