@@ -1,5 +1,5 @@
--- Two rules that no computed case reaches. Where 23 begins: the charts with such bounds are too large to be computed. That
--- an accepted image has 202 bytes: a call never meets another, since 12 comes first. Assumes nothing.
+-- Two rules that no computed case reaches. Where 23 begins: at one over 1,000,000, whatever the chart. That an accepted
+-- image has 202 bytes: a call never meets another, since 12 comes first. Assumes nothing.
 use mathlib.Core.Path.{_≡_}
 use mathlib.Core.Bool.{true, not}
 use lib.Dec.{eqb}

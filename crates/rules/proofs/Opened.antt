@@ -58,7 +58,7 @@ unfolding Run.follow Run.runActive Run.runChildren Run.runInside Run.runDuring R
 run = tt
 
 unfoldable pub bound : Unit {0}
-unfolding Bound.WW Bound.W Bound.G Bound.bound Bound.leads Bound.onward Bound.reaches Bound.loops Bound.boundRefusal
+unfolding Bound.WWithin Bound.W Bound.G Bound.bound Bound.leads Bound.onward Bound.reaches Bound.loops Bound.boundRefusal
 bound = tt
 
 unfoldable pub calls : Unit {0}
@@ -70,7 +70,7 @@ unfolding Session.decimal Session.line Session.badSession Session.itemsIn Sessio
 session = tt
 
 unfoldable pub charts : Unit {0}
-unfolding Charts.blockBytes Charts.CH Charts.ST Charts.plain Charts.leaf Charts.JN Charts.TR Charts.bare Charts.VA Charts.IN Charts.chartA Charts.backtrack Charts.deadEnd Charts.toItself Charts.shared Charts.sendsFirst Charts.beside Charts.reckons Charts.loop Charts.orders Charts.inside Charts.nested Charts.hangsUp Charts.chain Charts.deep Charts.alone Charts.pair Charts.upwards Charts.thrice Charts.manyWays Charts.blocks Charts.unused Charts.times Charts.piles
+unfolding Charts.blockBytes Charts.CH Charts.ST Charts.plain Charts.leaf Charts.JN Charts.TR Charts.bare Charts.VA Charts.IN Charts.chartA Charts.backtrack Charts.deadEnd Charts.toItself Charts.shared Charts.sendsFirst Charts.beside Charts.reckons Charts.loop Charts.orders Charts.inside Charts.nested Charts.hangsUp Charts.sendsLater Charts.sendsBoth Charts.chain Charts.deep Charts.alone Charts.pair Charts.upwards Charts.thrice Charts.manyWays Charts.blocks Charts.withEntry Charts.withDuring Charts.withExit Charts.withCondition Charts.withConditionAction Charts.withTransitionAction Charts.unused Charts.times Charts.piles
 charts = tt
 
 unfoldable pub cases : Unit {0}
@@ -78,7 +78,7 @@ unfolding Cases.sameBy Cases.lent Cases.boardFrom Cases.boardAfter Cases.isAnswe
 cases = tt
 
 unfoldable pub moreCases : Unit {0}
-unfolding MoreCases.moves MoreCases.sends MoreCases.gives MoreCases.overflows MoreCases.enters MoreCases.values MoreCases.limits MoreCases.atState MoreCases.atSegment MoreCases.refusedCharts MoreCases.images MoreCases.between MoreCases.freshA MoreCases.startedA MoreCases.answers MoreCases.sessions MoreCases.cases
+unfolding MoreCases.moves MoreCases.sends MoreCases.gives MoreCases.overflows MoreCases.enters MoreCases.values MoreCases.dividesByZero MoreCases.limits MoreCases.atState MoreCases.atSegment MoreCases.refusedCharts MoreCases.images MoreCases.between MoreCases.freshA MoreCases.startedA MoreCases.answers MoreCases.sessions MoreCases.cases
 moreCases = tt
 
 unfoldable pub opened : Unit {0}

@@ -11,15 +11,15 @@ use Rattle.rules.specs.Doing.{mostUnits}
 
 module _ (c : Chart) where
   -- W, of the first n segments of each way on
-  unfoldable pub WW : ℕ → Segment → ℕ
-  WW zero t = 0
-  WW (suc n) t =
+  unfoldable pub WWithin : ℕ → Segment → ℕ
+  WWithin zero t = 0
+  WWithin (suc n) t =
       1 + condition c t .count + conditionAction c t .count
-      + (if endsOnState c t then 0 else sumOver (λ u. WW n u) (own c (destination c t)))
+      + (if endsOnState c t then 0 else sumOver (λ u. WWithin n u) (own c (destination c t)))
 
   -- a way without a loop has at most one segment more than there are junctions
   unfoldable pub W : Segment → ℕ
-  W t = WW (junctions c + 1) t
+  W t = WWithin (junctions c + 1) t
 
   unfoldable pub G : ℕ
   G =

@@ -67,7 +67,9 @@ isAnswer a n r u items =
     ∷ same (a .trace) (itemBytes items ++ drop (4 * length items) (lent n)) ∷ [])
 
 unfoldable pub holds : Case → Bool
-holds (bounds c r b) = eqb (boundCall c .refusal .number) r && eqb (boundCall c .bound) b
+holds (bounds c r b) =
+    let a = boundCall c in
+    eqb (a .refusal .number) r && eqb (a .bound) b
 holds (spoilt c i v r) = eqb (boundCall (set c i v) .refusal .number) r
 holds (weighs c t w) = eqb (W c t) w
 holds (steps c es e allowance n r u items) =

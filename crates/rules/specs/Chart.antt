@@ -8,7 +8,7 @@ use lib.IntN.{ℤ}
 use Rattle.rules.specs.Bytes.{Bytes, byte, field, signed}
 use Rattle.rules.specs.Lists.{if_then_else_, upFrom, downFrom, below, range, keep, isIn}
 
--- numbers of states, junctions and segments: the signatures keep them apart, as the code's types do
+-- numbers of states, junctions and segments: told apart by name here, by type in the code
 abbrev pub State : Type 0
 State = ℕ
 

@@ -133,6 +133,20 @@ hangsUp =
     CH 3 0 2 0 2 1 2 ++ plain 0 1 1 0 ++ ST 0 0 0 0 none (at 0 2) none ++ leaf 0
     ++ bare 0 1 0 2 2 ++ bare 1 1 0 1 0 ++ IN 12 2 0 ++ IN 11 1 0
 
+-- on event 1 the way from 1 goes over a junction to 3; there a condition action sends event 2 to the root, on which 1
+-- goes to 2
+unfoldable pub sendsLater : Chart
+sendsLater =
+    CH 4 1 3 0 2 0 1 ++ plain 0 1 1 0 ++ leaf 0 ++ leaf 0 ++ leaf 0 ++ JN 0
+    ++ bare 0 1 1 0 1 ++ TR 2 0 0 3 0 none (at 0 1) none ++ bare 0 1 0 2 2 ++ IN 12 2 0
+
+-- during of 1 sends event 2 to 2 and then raises 1. On event 2 a condition action in 3, below 2, sends event 3 to 2, on
+-- which 3 goes to 4
+unfoldable pub sendsBoth : Chart
+sendsBoth =
+    CH 5 0 2 0 3 1 3 ++ plain 0 2 0 0 ++ ST 0 0 0 0 none (at 0 2) none ++ plain 0 1 3 0 ++ leaf 2 ++ leaf 2
+    ++ TR 0 3 0 4 2 none (at 2 1) none ++ bare 0 3 0 4 3 ++ IN 12 2 2 ++ IN 11 1 0 ++ IN 12 3 2
+
 -- d + 1 states from s + 1 on, each the only child of the one before; the last is a leaf
 unfoldable pub chain : ℕ → ℕ → Bytes
 chain zero s = leaf s
@@ -169,9 +183,28 @@ unfoldable pub blocks : Block → Block → Block → Block → Block → Block 
 blocks en du ex co ca ta n instructions =
     CH 2 0 1 1 1 1 n ++ plain 0 1 1 0 ++ ST 0 0 0 0 en du ex ++ TR 0 1 0 1 1 co ca ta ++ VA 0 ++ instructions
 
+-- the same with one block
+unfoldable pub withEntry : Block → ℕ → Bytes → Chart
+withEntry k n is = blocks k none none none none none n is
+
+unfoldable pub withDuring : Block → ℕ → Bytes → Chart
+withDuring k n is = blocks none k none none none none n is
+
+unfoldable pub withExit : Block → ℕ → Bytes → Chart
+withExit k n is = blocks none none k none none none n is
+
+unfoldable pub withCondition : Block → ℕ → Bytes → Chart
+withCondition k n is = blocks none none none k none none n is
+
+unfoldable pub withConditionAction : Block → ℕ → Bytes → Chart
+withConditionAction k n is = blocks none none none none k none n is
+
+unfoldable pub withTransitionAction : Block → ℕ → Bytes → Chart
+withTransitionAction k n is = blocks none none none none none k n is
+
 -- one instruction, in no block
 unfoldable pub unused : ℕ → ℕ → ℕ → Chart
-unused op a b = blocks none none none none none none 1 (IN op a b)
+unused op a b = withEntry none 1 (IN op a b)
 
 -- n records
 unfoldable pub times : ℕ → Bytes → Bytes
@@ -180,4 +213,4 @@ times (suc n) r = r ++ times n r
 
 -- n pushes, then n stores, as an entry action
 unfoldable pub piles : ℕ → Chart
-piles n = blocks (at 0 (n + n)) none none none none none (n + n) (times n (IN 0 0 1) ++ times n (IN 2 0 0))
+piles n = withEntry (at 0 (n + n)) (n + n) (times n (IN 0 0 1) ++ times n (IN 2 0 0))

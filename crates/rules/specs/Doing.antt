@@ -72,14 +72,14 @@ pay = λ n. payFrom (n .units) n
 
 -- what a trace item tells: kind x 65,536 + number
 pub data Act : Type 0 where
-  stateEntered stateLeft duringPoint segmentPassed transitionAct outputRaised : Act
+  stateEntered stateLeft duringPoint segmentPassed transitionPerformed outputRaised : Act
 
 abbrev pub itemOf : Act → ℕ → ℕ
 itemOf stateEntered n = 1 * 65536 + n
 itemOf stateLeft n = 2 * 65536 + n
 itemOf duringPoint n = 3 * 65536 + n
 itemOf segmentPassed n = 4 * 65536 + n
-itemOf transitionAct n = 5 * 65536 + n
+itemOf transitionPerformed n = 5 * 65536 + n
 itemOf outputRaised n = 6 * 65536 + n
 
 -- an item is four bytes; the room for items in n lent bytes

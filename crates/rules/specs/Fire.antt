@@ -7,7 +7,7 @@ use lib.Dec.{eqb}
 use Rattle.rules.specs.Lists.{if_then_else_, every, keep, first, _else_}
 use Rattle.rules.specs.Chart.{State, Segment, Chart, deepest, parent, initial, entry, exit, junctionParent, destination, endsOnState, transitionAction, isOneOf, keepsHistory, children, childrenDown, line, over}
 use Rattle.rules.specs.Image.{Image, recorded, activate, deactivate, recordChild}
-use Rattle.rules.specs.Doing.{Done, done, _>>=_, _>>_, look, change, pay, stateEntered, stateLeft, transitionAct, note, each, whenActive}
+use Rattle.rules.specs.Doing.{Done, done, _>>=_, _>>_, look, change, pay, stateEntered, stateLeft, transitionPerformed, note, each, whenActive}
 use Rattle.rules.specs.Block.{action}
 
 -- the root and the levels below it
@@ -71,7 +71,7 @@ module _ (c : Chart) where
 
   unfoldable pub transit : Segment → Done
   transit t = do
-    note transitionAct t
+    note transitionPerformed t
     action c (transitionAction c t)
 
   unfoldable pub fire : State → State → List Segment → Done

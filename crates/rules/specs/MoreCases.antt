@@ -6,9 +6,9 @@ use lib.ListN.{take, replicate, set}
 use lib.IntN.{ℤ, pos, negsuc}
 use Rattle.rules.specs.Bytes.{Bytes, ascii}
 use Rattle.rules.specs.Lists.{upFrom, downFrom}
-use Rattle.rules.specs.Chart.{stateAt, junctionAt, segmentAt, variableAt, instructionAt}
+use Rattle.rules.specs.Chart.{Chart, stateAt, junctionAt, segmentAt, variableAt, instructionAt}
 use Rattle.rules.specs.Calls.{Board, stepCall, freshCall, boundCall}
-use Rattle.rules.specs.Charts.{none, at, IN, chartA, backtrack, sendsFirst, beside, reckons, loop, orders, inside, nested, hangsUp, deep, alone, pair, upwards, manyWays, blocks, unused, times, piles}
+use Rattle.rules.specs.Charts.{none, at, IN, chartA, backtrack, sendsFirst, beside, reckons, loop, orders, inside, nested, hangsUp, deep, alone, pair, upwards, manyWays, withEntry, withDuring, withExit, withCondition, withConditionAction, withTransitionAction, unused, times, piles, sendsLater, sendsBoth}
 use Rattle.rules.specs.Cases.{Case, bounds, spoilt, steps, stands, imaged, boarded, leaves, says, lent, boardAfter, sessionOf, sessionsToCheck}
 
 -- ── run, search, fire, leave, enter ──
@@ -54,10 +54,12 @@ moves =
     (196608 ∷ 262144 ∷ map (λ s. 131072 + s) (downFrom 8) ++ (327680 ∷ upFrom 65537 8))
     ∷ bounds (deep 7) 0 172
     ∷ bounds (deep 8) 6 0
-    -- a condition is performed only for the event; any value but 0 passes
-    ∷ steps (blocks none none none (at 0 1) none none 1 (IN 0 0 65535)) (1 ∷ []) 1 1000000 1024 0 6
+    -- any value of the condition but 0 passes
+    ∷ steps (withCondition (at 0 1) 1 (IN 0 0 65535)) (1 ∷ []) 1 1000000 1024 0 6
     (196608 ∷ 262144 ∷ 131073 ∷ 327680 ∷ 65537 ∷ [])
-    ∷ steps (blocks none none none (at 0 1) none none 1 (IN 0 0 0)) (1 ∷ []) 1 1000000 1024 0 4 (196608 ∷ 196609 ∷ [])
+    ∷ steps (withCondition (at 0 1) 1 (IN 0 0 0)) (1 ∷ []) 1 1000000 1024 0 4 (196608 ∷ 196609 ∷ [])
+    -- with another event the condition is not performed
+    ∷ steps (set (withCondition (at 0 1) 1 (IN 0 0 1)) 7 2) (1 ∷ []) 2 1000000 1024 0 3 (196608 ∷ 196609 ∷ [])
     ∷ bounds backtrack 0 44
     ∷ steps (alone 0 0 0) [] 1 1000000 1024 0 1 (65536 ∷ [])
     ∷ steps (alone 0 0 0) (1 ∷ []) 1 1000000 1024 0 1 (196608 ∷ [])
@@ -73,6 +75,12 @@ sends =
     -- a during state that is gone: the rest of the block, and the inner edge, are abandoned
     ∷ steps hangsUp (1 ∷ []) 1 1000000 1024 0 9
     (196608 ∷ 196609 ∷ 196608 ∷ 262144 ∷ 131073 ∷ 327680 ∷ 65538 ∷ [])
+    -- on a junction's segment the owner is the source state, not the junction's parent
+    ∷ steps sendsLater (1 ∷ []) 1 1000000 1024 0 11
+    (196608 ∷ 262144 ∷ 262145 ∷ 196608 ∷ 262146 ∷ 131073 ∷ 327682 ∷ 65538 ∷ [])
+    -- an owner that is gone abandons its own run only: 1, whose send this was, goes on
+    ∷ steps sendsBoth (1 ∷ []) 1 1000000 1024 0 16
+    (196608 ∷ 196609 ∷ 196610 ∷ 262144 ∷ 196610 ∷ 262145 ∷ 131075 ∷ 327681 ∷ 65540 ∷ 393217 ∷ 196610 ∷ 196612 ∷ [])
     -- to an inactive state: nothing
     ∷ steps (beside 1 1) (1 ∷ []) 1 1000000 1024 0 3 (196608 ∷ 196609 ∷ [])
     -- eight sends may be open
@@ -84,7 +92,7 @@ sends =
 
 -- ── values ──
 
--- after the during action, x is this
+-- x and y as VA has them; after the during action y has this value, and x this
 unfoldable pub gives : ℕ → ℕ → ℕ → ℤ → ℤ → Case
 gives op x y y′ z = stands (reckons op x y) (1 ∷ 1 ∷ []) (0 ∷ 1 ∷ []) (0 ∷ 0 ∷ []) (z ∷ y′ ∷ [])
 
@@ -94,7 +102,7 @@ overflows op x y = steps (reckons op x y) (1 ∷ []) 1 1000000 1024 17 0 []
 -- after the entry action of these instructions, x is this
 unfoldable pub enters : ℕ → Bytes → ℤ → Case
 enters n instructions z =
-    stands (blocks (at 0 n) none none none none none n instructions) (1 ∷ []) (0 ∷ 1 ∷ []) (0 ∷ 0 ∷ []) (z ∷ [])
+    stands (withEntry (at 0 n) n instructions) (1 ∷ []) (0 ∷ 1 ∷ []) (0 ∷ 0 ∷ []) (z ∷ [])
 
 unfoldable pub values : List Case
 values =
@@ -128,6 +136,9 @@ values =
 
 -- ── units, room, the longest path ──
 
+unfoldable pub dividesByZero : Chart
+dividesByZero = withCondition (at 0 3) 3 (IN 0 0 1 ++ IN 0 0 0 ++ IN 6 0 0)
+
 unfoldable pub limits : List Case
 limits =
     -- the unit comes before the item
@@ -140,8 +151,8 @@ limits =
     ∷ steps orders (1 ∷ 1 ∷ []) 2 5 8 16 0 []
     ∷ steps orders (1 ∷ 1 ∷ []) 2 6 8 20 0 []
     -- a segment and each instruction of its condition are paid before they are tried; here the third divides by 0
-    ∷ steps (blocks none none none (at 0 3) none none 3 (IN 0 0 1 ++ IN 0 0 0 ++ IN 6 0 0)) (1 ∷ []) 1 5 1024 16 0 []
-    ∷ steps (blocks none none none (at 0 3) none none 3 (IN 0 0 1 ++ IN 0 0 0 ++ IN 6 0 0)) (1 ∷ []) 1 6 1024 17 0 []
+    ∷ steps dividesByZero (1 ∷ []) 1 5 1024 16 0 []
+    ∷ steps dividesByZero (1 ∷ []) 1 6 1024 17 0 []
     -- a ninth send has its unit, then 18
     ∷ steps (nested 9) (1 ∷ []) 1 90 1024 16 0 []
     ∷ steps (nested 9) (1 ∷ []) 1 91 1024 18 0 []
@@ -157,7 +168,7 @@ limits =
 
 -- ── refusals of a chart ──
 
--- state s, junction j, segment t or instruction i of `backtrack` with this byte at this place of its record
+-- state s or segment t of `backtrack` with this byte at this place of its record
 unfoldable pub atState : ℕ → ℕ → ℕ → ℕ → Case
 atState s i v r = spoilt backtrack (stateAt backtrack s + i) v r
 
@@ -236,13 +247,13 @@ refusedCharts =
     ∷ atSegment 1 5 4 7
     ∷ atSegment 0 6 2 7
     -- 8: blocks
-    ∷ bounds (blocks (at 0 2) none none none none none 1 (IN 11 1 0)) 8 0
-    ∷ bounds (blocks none (at 1 1) none none none none 1 (IN 11 1 0)) 8 0
-    ∷ bounds (blocks none none (at 0 2) none none none 1 (IN 11 1 0)) 8 0
-    ∷ bounds (blocks none none none (at 0 2) none none 1 (IN 0 0 1)) 8 0
-    ∷ bounds (blocks none none none none (at 0 2) none 1 (IN 11 1 0)) 8 0
-    ∷ bounds (blocks none none none none none (at 0 2) 1 (IN 11 1 0)) 8 0
-    ∷ bounds (blocks none none none none none (at 1 0) 1 (IN 11 1 0)) 8 0
+    ∷ bounds (withEntry (at 0 2) 1 (IN 11 1 0)) 8 0
+    ∷ bounds (withDuring (at 1 1) 1 (IN 11 1 0)) 8 0
+    ∷ bounds (withExit (at 0 2) 1 (IN 11 1 0)) 8 0
+    ∷ bounds (withCondition (at 0 2) 1 (IN 0 0 1)) 8 0
+    ∷ bounds (withConditionAction (at 0 2) 1 (IN 11 1 0)) 8 0
+    ∷ bounds (withTransitionAction (at 0 2) 1 (IN 11 1 0)) 8 0
+    ∷ bounds (withTransitionAction (at 1 0) 1 (IN 11 1 0)) 8 0
     ∷ spoilt chartA (stateAt chartA 0 + 8) 1 8
     ∷ spoilt chartA (stateAt chartA 0 + 11) 1 8
     ∷ spoilt chartA (stateAt chartA 0 + 14) 1 8
@@ -267,22 +278,22 @@ refusedCharts =
     -- 10: the stack
     ++ (bounds (piles 16) 0 75
     ∷ bounds (piles 17) 10 0
-    ∷ bounds (blocks (at 0 1) none none none none none 1 (IN 0 0 1)) 10 0
-    ∷ bounds (blocks none (at 0 1) none none none none 1 (IN 2 0 0)) 10 0
-    ∷ bounds (blocks none none (at 0 2) none none none 2 (IN 0 0 1 ++ IN 3 0 0)) 10 0
-    ∷ bounds (blocks none none none (at 0 2) none none 2 (IN 0 0 1 ++ IN 0 0 1)) 10 0
-    ∷ bounds (blocks none none none (at 0 2) none none 2 (IN 0 0 1 ++ IN 2 0 0)) 10 0
-    ∷ bounds (blocks none none none none (at 0 1) none 1 (IN 10 0 0)) 10 0
-    ∷ bounds (blocks none none none none none (at 0 1) 1 (IN 1 0 0)) 10 0
+    ∷ bounds (withEntry (at 0 1) 1 (IN 0 0 1)) 10 0
+    ∷ bounds (withDuring (at 0 1) 1 (IN 2 0 0)) 10 0
+    ∷ bounds (withExit (at 0 2) 2 (IN 0 0 1 ++ IN 3 0 0)) 10 0
+    ∷ bounds (withCondition (at 0 2) 2 (IN 0 0 1 ++ IN 0 0 1)) 10 0
+    ∷ bounds (withCondition (at 0 2) 2 (IN 0 0 1 ++ IN 2 0 0)) 10 0
+    ∷ bounds (withConditionAction (at 0 1) 1 (IN 10 0 0)) 10 0
+    ∷ bounds (withTransitionAction (at 0 1) 1 (IN 1 0 0)) 10 0
     -- 11: store, raise and send in a condition; send in entry, exit and transition actions
-    ∷ bounds (blocks none none none (at 0 3) none none 3 (IN 0 0 1 ++ IN 2 0 0 ++ IN 0 0 1)) 11 0
-    ∷ bounds (blocks none none none (at 0 2) none none 2 (IN 11 1 0 ++ IN 0 0 1)) 11 0
-    ∷ bounds (blocks none none none (at 0 2) none none 2 (IN 12 1 1 ++ IN 0 0 1)) 11 0
-    ∷ bounds (blocks (at 0 1) none none none none none 1 (IN 12 1 1)) 11 0
-    ∷ bounds (blocks none none (at 0 1) none none none 1 (IN 12 1 1)) 11 0
-    ∷ bounds (blocks none none none none none (at 0 1) 1 (IN 12 1 1)) 11 0
-    ∷ bounds (blocks none (at 0 1) none none none none 1 (IN 12 1 1)) 21 0
-    ∷ bounds (blocks none none none none (at 0 1) none 1 (IN 12 1 1)) 21 0
+    ∷ bounds (withCondition (at 0 3) 3 (IN 0 0 1 ++ IN 2 0 0 ++ IN 0 0 1)) 11 0
+    ∷ bounds (withCondition (at 0 2) 2 (IN 11 1 0 ++ IN 0 0 1)) 11 0
+    ∷ bounds (withCondition (at 0 2) 2 (IN 12 1 1 ++ IN 0 0 1)) 11 0
+    ∷ bounds (withEntry (at 0 1) 1 (IN 12 1 1)) 11 0
+    ∷ bounds (withExit (at 0 1) 1 (IN 12 1 1)) 11 0
+    ∷ bounds (withTransitionAction (at 0 1) 1 (IN 12 1 1)) 11 0
+    ∷ bounds (withDuring (at 0 1) 1 (IN 12 1 1)) 21 0
+    ∷ bounds (withConditionAction (at 0 1) 1 (IN 12 1 1)) 21 0
     ∷ [])
 
 -- ── images and boards ──
@@ -370,7 +381,7 @@ sessions =
     -- a refused chart ends the session; a refused bound or event does not
     ∷ says (sessionOf [] (1 ∷ [])) "1 0\n"
     ∷ says (sessionOf (take 83 chartA) (1 ∷ [])) "4 0\n"
-    ∷ says (sessionOf (blocks (at 0 1) none none none none none 1 (IN 12 1 1)) (1 ∷ [])) "11 0\n"
+    ∷ says (sessionOf (withEntry (at 0 1) 1 (IN 12 1 1)) (1 ∷ [])) "11 0\n"
     ∷ says (sessionOf (sendsFirst 2) (1 ∷ 3 ∷ 1 ∷ []))
     "21 0\n0 2 2 65536 65537\n14 0 0\n0 10 7 196608 262144 196608 262145 131073 327681 65538\n"
     ∷ says (sessionOf chartA [] ++ replicate 16296 0) "0 25\nbad session\n"

@@ -7,8 +7,8 @@ use Rattle.rules.specs.Calls.{hasPart}
 use Rattle.rules.specs.declared.headers.Header.{Header}
 use Rattle.rules.specs.declared.headers.Made.{Made}
 use Rattle.rules.specs.declared.headers.Made.the-variants.{Of, Outside}
-use Rattle.rules.specs.declared.images.Place.{Place}
-use Rattle.rules.specs.declared.images.Place.the-variants.{At, Missing}
+use Rattle.rules.specs.declared.images.Part.{Part}
+use Rattle.rules.specs.declared.images.Part.the-variants.{At, Missing}
 
 abbrev pub fitsOf : Header → Bool
 fitsOf h =
@@ -21,9 +21,9 @@ unfoldable pub madeNumber : Made → ℕ
 madeNumber (Of h) = 0
 madeNumber Outside = 3
 
-abbrev pub placeOf : ℕ → ℕ → Place
-placeOf k n = cond (hasPart n k) (At (record { at = imageSize * k })) Missing
+abbrev pub partOf : ℕ → ℕ → Part
+partOf k n = cond (hasPart n k) (At (record { at = imageSize * k })) Missing
 
-unfoldable pub placeNumber : Place → ℕ
-placeNumber (At im) = 0
-placeNumber Missing = 12
+unfoldable pub partNumber : Part → ℕ
+partNumber (At im) = 0
+partNumber Missing = 12

@@ -1,14 +1,14 @@
 // A lift's image: its size, and where the lift's part of a board is.
 ghost use mathlib.Core.Path.{_≡_};
-ghost use Rattle.rules.specs.Types.{placeOf};
+ghost use Rattle.rules.specs.Types.{partOf};
 
 // Where an image starts on a board.
 pub struct Image {
     pub at: usize,
 }
 
-// A lift's image, or no such part of the board.
-pub enum Place {
+// A lift's part of the board, or none.
+pub enum Part {
     At(Image),
     Missing,
 }
@@ -18,17 +18,17 @@ impl Image {
 
     pub const LAST_LIFT: u32 = 63;
 
-    pub fn of_lift(lift: u32, bytes: usize) -> Place
-        ensures { λ r. ⌜ r ≡ placeOf lift bytes ⌝ }
+    pub fn of_lift(lift: u32, bytes: usize) -> Part
+        ensures { λ r. ⌜ r ≡ partOf lift bytes ⌝ }
     {
         if Image::LAST_LIFT < lift {
-            return Place::Missing;
+            return Part::Missing;
         }
         let k = lift as usize;
         let at = Image::SIZE * k;
         if bytes < at + Image::SIZE {
-            return Place::Missing;
+            return Part::Missing;
         }
-        Place::At(Image { at })
+        Part::At(Image { at })
     }
 }

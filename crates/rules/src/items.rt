@@ -53,7 +53,7 @@ impl Item {
     }
 
     pub fn transition(t: SegmentNo) -> Item
-        ensures { λ r. ⌜ r .kind * 65536 + r .number ≡ itemOf Act.transitionAct (t .0) ⌝ }
+        ensures { λ r. ⌜ r .kind * 65536 + r .number ≡ itemOf Act.transitionPerformed (t .0) ⌝ }
     {
         Item {
             kind: 5,
