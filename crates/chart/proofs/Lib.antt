@@ -2,3 +2,4 @@ pub mod Parts
 pub mod Ranges
 pub mod Lines
 pub mod Firsts
+pub mod Own
