@@ -63,6 +63,11 @@ fn largest(count: usize) -> Vec<u8> {
     c
 }
 
+/// Where an instruction of the largest chart stands.
+fn instruction_at(i: usize) -> usize {
+    12_236 - 6 * (1024 - i)
+}
+
 struct Random(u64);
 
 impl Random {
@@ -90,6 +95,10 @@ fn agree(rounds: usize) -> [usize; 12] {
         }
         if random.below(16) == 0 {
             chart.truncate(random.below(chart.len() + 1));
+        } else if random.below(8) == 0 {
+            // a raise or a send among the conditions, where a not stood
+            let at = instruction_at(513 + random.below(4));
+            chart[at..at + 6].copy_from_slice(&[b'I', b'N', 11 + random.below(2) as u8, 1, 0, 0]);
         }
         assert_eq!(proved(&chart), plain::refusal(&chart), "{chart:?}");
         answers[plain::refusal(&chart) as usize] += 1;

@@ -136,24 +136,13 @@ pub fn of_state(chart: &[u8], h: Header, rule: BlockRule, s: StateNo) -> bool
     ensures { λ r. ⌜ r ≡ ruleOf (StateBlocks rule) (now (chart .entry)) (s .0) ⌝ }
 {
     let table = instructions::table(chart, h);
-    let entry = block_right(
-        chart,
-        h,
-        table,
-        rule,
-        Place::Action,
-        states::entry(chart, s),
-    );
-    let during = block_right(
-        chart,
-        h,
-        table,
-        rule,
-        Place::SendingAction,
-        states::during(chart, s),
-    );
-    let exit = block_right(chart, h, table, rule, Place::Action, states::exit(chart, s));
-    entry & (during & exit)
+    let entry = states::entry(chart, s);
+    let during = states::during(chart, s);
+    let exit = states::exit(chart, s);
+    let first = block_right(chart, h, table, rule, Place::Action, entry);
+    let second = block_right(chart, h, table, rule, Place::SendingAction, during);
+    let third = block_right(chart, h, table, rule, Place::Action, exit);
+    first & (second & third)
 }
 
 pub fn of_segment(chart: &[u8], h: Header, rule: BlockRule, t: SegmentNo) -> bool

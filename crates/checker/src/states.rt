@@ -56,15 +56,16 @@ fn initial_right(chart: &[u8], h: Header, s: StateNo) -> bool
 }
 
 // Only a one-of state keeps history.
+fn most_history(chart: &[u8], s: StateNo) -> u8
+    ensures { λ r. ⌜ r ≡ (if isOneOf (now (chart .entry)) (s .0) then 1 else 0) ⌝ }
+{
+    if states::kind(chart, s) == 1 { 1 } else { 0 }
+}
+
 fn history_right(chart: &[u8], s: StateNo) -> bool
     ensures { λ r. ⌜ r ≡ leb (history (now (chart .entry)) (s .0)) (if isOneOf (now (chart .entry)) (s .0) then 1 else 0) ⌝ }
 {
-    let history = states::history(chart, s);
-    if states::kind(chart, s) == 1 {
-        history <= 1
-    } else {
-        history <= 0
-    }
+    states::history(chart, s) <= most_history(chart, s)
 }
 
 pub fn state_right(chart: &[u8], h: Header, s: StateNo) -> bool

@@ -16,7 +16,7 @@ u8-at-requires : tie.Need-u8-at-requires
 u8-at-requires c κs = search needs
 
 returns : tie.Need-returns
-returns c = cc
+returns c = rw (c .before .u16-at .ensures, c .u8-at .ensures)
 
 pub at-spec : {M : Type 1} → statement M
 at-spec = tie.close (tie.spec add-first u16-at-requires add-u8-at u8-at-requires returns)

@@ -25,7 +25,7 @@ u16-at-requires-2 : tie.Need-u16-at-requires-2
 u16-at-requires-2 c κs = search needs
 
 returns : tie.Need-returns
-returns c = cc
+returns c = rw (c .before .before .before .before .before .before .u8-at .ensures, c .before .before .before .before .before .u8-at2 .ensures, c .before .before .before .before .u16-at .ensures, c .before .before .before .u8-at3 .ensures, c .before .before .u8-at4 .ensures, c .before .u8-at5 .ensures, c .u16-at2 .ensures)
 
 pub read-spec : {M : Type 1} → statement M
 read-spec =

@@ -13,7 +13,7 @@ numbered-requires : tie.Need-numbered-requires
 numbered-requires c κs = search needs
 
 returns : tie.Need-returns
-returns c = cc
+returns c = rw (c .before .u8-at .ensures) at (c .numbered .ensures)
 
 pub op-at-spec : {M : Type 1} → statement M
 op-at-spec = tie.close (tie.spec add-u8-at u8-at-requires numbered-requires returns)

@@ -16,7 +16,7 @@ u8-at-requires : tie.Need-u8-at-requires
 u8-at-requires c κs = search needs
 
 returns : tie.Need-returns
-returns c = cc
+returns c = rw (c .u8-at .ensures, c .before .junction .ensures)
 
 pub parent-spec : {M : Type 1} → statement M
 parent-spec = tie.close (tie.spec junction-requires cast-u8-at add-u8-at u8-at-requires returns)

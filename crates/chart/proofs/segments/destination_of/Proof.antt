@@ -13,7 +13,7 @@ destination-named-requires : tie.Need-destination-named-requires
 destination-named-requires c κs = search needs
 
 returns : tie.Need-returns
-returns c = cc
+returns c = rw (c .before .before .byte-of .ensures, c .before .byte-of2 .ensures) at (c .destination-named .ensures)
 
 pub destination-of-spec : {M : Type 1} → statement M
 destination-of-spec =

@@ -13,7 +13,7 @@ source-named-requires : tie.Need-source-named-requires
 source-named-requires c κs = search needs
 
 returns : tie.Need-returns
-returns c = cc
+returns c = rw (c .before .before .byte-of .ensures, c .before .byte-of2 .ensures) at (c .source-named .ensures)
 
 pub source-of-spec : {M : Type 1} → statement M
 source-of-spec =

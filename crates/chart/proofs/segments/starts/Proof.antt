@@ -10,7 +10,7 @@ byte-of-requires-2 : tie.Need-byte-of-requires-2
 byte-of-requires-2 c κs = search needs
 
 returns : tie.Need-returns
-returns c = cc
+returns c = rw (c .before .byte-of .ensures, c .byte-of2 .ensures)
 
 pub starts-spec : {M : Type 1} → statement M
 starts-spec = tie.close (tie.spec byte-of-requires byte-of-requires-2 returns)

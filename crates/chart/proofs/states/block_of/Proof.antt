@@ -10,7 +10,7 @@ at-requires : tie.Need-at-requires
 at-requires c κs = search needs
 
 returns : tie.Need-returns
-returns c = cc
+returns c = rw (c .before .state .ensures) at (c .at .ensures)
 
 pub block-of-spec : {M : Type 1} → statement M
 block-of-spec = tie.close (tie.spec state-requires at-requires returns)

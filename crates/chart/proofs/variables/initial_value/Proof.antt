@@ -16,7 +16,7 @@ u32-at-requires : tie.Need-u32-at-requires
 u32-at-requires c κs = search needs
 
 returns : tie.Need-returns
-returns c = cc
+returns c = rw (c .u32-at .ensures, c .before .variable .ensures)
 
 pub initial-value-spec : {M : Type 1} → statement M
 initial-value-spec =

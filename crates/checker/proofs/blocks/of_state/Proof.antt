@@ -11,17 +11,17 @@ table-requires c κs = search needs
 entry-requires : tie.Need-entry-requires
 entry-requires c κs = search needs
 
-block-right-requires : tie.Need-block-right-requires
-block-right-requires c κs = search needs
-
 during-requires : tie.Need-during-requires
 during-requires c κs = search needs
 
-block-right-requires-2 : tie.Need-block-right-requires-2
-block-right-requires-2 c κs = search needs
-
 exit-requires : tie.Need-exit-requires
 exit-requires c κs = search needs
+
+block-right-requires : tie.Need-block-right-requires
+block-right-requires c κs = search needs
+
+block-right-requires-2 : tie.Need-block-right-requires-2
+block-right-requires-2 c κs = search needs
 
 block-right-requires-3 : tie.Need-block-right-requires-3
 block-right-requires-3 c κs = search needs
@@ -30,12 +30,12 @@ returns : tie.Need-returns
 unfolding ruleOf
 returns c =
     rw (
-      c .before .before .before .before .block-right .ensures,
-      c .before .before .block-right2 .ensures,
+      c .before .before .block-right .ensures,
+      c .before .block-right2 .ensures,
       c .block-right3 .ensures,
       c .before .before .before .before .before .entry .ensures,
-      c .before .before .before .during .ensures,
-      c .before .exit .ensures,
+      c .before .before .before .before .during .ensures,
+      c .before .before .before .exit .ensures,
       and-assoc,
     )
 
@@ -45,9 +45,9 @@ of-state-spec =
     (tie.spec
     table-requires
     entry-requires
-    block-right-requires
     during-requires
-    block-right-requires-2
     exit-requires
+    block-right-requires
+    block-right-requires-2
     block-right-requires-3
     returns)
