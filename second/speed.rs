@@ -94,7 +94,8 @@ fn agree(rounds: usize) -> [usize; 12] {
             chart[at] = if random.below(2) == 0 { random.below(14) as u8 } else { random.below(256) as u8 };
         }
         if random.below(16) == 0 {
-            chart.truncate(random.below(chart.len() + 1));
+            let lengths = if random.below(2) == 0 { 24 } else { chart.len() + 1 };
+            chart.truncate(random.below(lengths));
         } else if random.below(8) == 0 {
             // a raise or a send among the conditions, where a not stood
             let at = instruction_at(513 + random.below(4));

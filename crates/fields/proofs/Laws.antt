@@ -7,8 +7,8 @@ use native.Mathlib.Nat.{mul-assoc, add-zero, zero-add, suc-add, pow-suc, pow-suc
 use native.Mathlib.Numerals.{add-one}
 use native.Mathlib.Omega.{arith}
 use lib.Arith.{mod-mul}
-use lib.ListN.{length, set, length-set, List·getD-eq-default}
-use lib.Seq.{getD-set-same, getD-set-other, set-out, length-sets}
+use lib.ListN.{length, set, drop, length-set, List·getD-eq-default}
+use lib.Seq.{getD-drop, getD-set-same, getD-set-other, set-out, length-sets}
 use Rattle.rules.specs.Bytes.{byte, field, bytesOf, put}
 
 -- a field of one byte is the byte
@@ -34,6 +34,17 @@ field-out (suc w) b i h = omega (arith, List·getD-eq-default b 0 h, field-out w
 -- so a field that runs past the end is that of the bytes before the end
 pub field-short : (j k : ℕ) (b : List ℕ) (i : ℕ) → length b ≤ i + j → field (j + k) b i ≡ field j b i
 field-short j k b i h = field-split j k b i ∙ rw (field-out k b (i + j) h) (omega arith)
+
+-- a field of a part stands that much further on in the whole
+pub byte-drop : (b : List ℕ) (a i : ℕ) → byte (drop a b) i ≡ byte b (a + i)
+byte-drop b a i = getD-drop a b i 0
+
+pub field-drop : (w : ℕ) (b : List ℕ) (a i : ℕ) → field w (drop a b) i ≡ field w b (a + i)
+field-drop zero b a i = refl
+field-drop (suc w) b a i =
+    let e : a + (i + 1) ≡ a + i + 1 = omega arith in
+    let rest = rw e at (field-drop w b a (i + 1)) in
+    omega (arith, byte-drop b a i, rest)
 
 -- w bytes hold a number below 256 ^ w
 pub field-lt : (w : ℕ) (b : List ℕ) (i : ℕ) → ((k : ℕ) → byte b k < 256) → field w b i < 256 ^ w

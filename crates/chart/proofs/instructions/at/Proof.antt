@@ -1,17 +1,11 @@
 -- Field by field; the signed one as the machine holds it. Assumes nothing.
-use mathlib.Core.Path.{_≡_, _∙_}
-use Prim.Native.Nat.{ℕ}
-use lib.IntN.{ℤ}
+use mathlib.Core.Path.{_∙_}
 use mir.Syntax.{w16}
 use mir.ValLaws.{toZ-ofZ}
-use Rattle.rules.specs.Chart.{Op, Instruction}
 use borrow.Author.Needs.{needs}
+use Rattle.chart.proofs.Parts.{same-fields}
 use Rattle.chart.proofs.instructions.at.Statement.{statement}
 use Rattle.chart.proofs.instructions.at.Tie as tie
-
--- instructions with the same fields are the same
-same-fields : {o p : Op} {a d : ℕ} {b e : ℤ} → o ≡ p → a ≡ d → b ≡ e → _≡_ {A = Instruction} (record { op = o; a = a; b = b }) (record { op = p; a = d; b = e })
-same-fields x y z = cc
 
 op-at-requires : tie.Need-op-at-requires
 op-at-requires c κs = search needs
