@@ -10,6 +10,13 @@ ghost use Rattle.rules.specs.Chart as rules;
 ghost use Rattle.chart.specs.Places.{statePlace};
 ghost use Rattle.chart.specs.Read.{blockOf};
 
+// The kinds of states.
+pub const LEAF: u8 = 0;
+
+pub const ONE_OF: u8 = 1;
+
+pub const ALL_OF: u8 = 2;
+
 fn byte_of(chart: &[u8], s: StateNo, offset: u8) -> u8
     ensures { λ r. ⌜ r ≡ byte (now (chart .entry)) (statePlace (s .0) + offset) ⌝ }
 {

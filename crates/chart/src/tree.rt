@@ -13,15 +13,12 @@ pub enum Next {
     End,
 }
 
-// The depth of the deepest state, the root's being 0.
-const DEEPEST: u8 = 8;
-
 // Whether a is s, or is above s.
 pub fn over(chart: &[u8], a: StateNo, s: StateNo) -> bool
     ensures { λ r. ⌜ r ≡ rules.over (now (chart .entry)) (a .0) (s .0) ⌝ }
 {
     let mut at = s;
-    let mut left = DEEPEST;
+    let mut left = StateNo::DEEPEST;
     while 0 < left {
         if at.0 == a.0 {
             return true;

@@ -11,6 +11,7 @@ use Rattle.rules.specs.Chart.{Chart, State, children}
 use Rattle.rules.specs.declared.headers.Header.{Header}
 use Rattle.chart.specs.Places.{headerOf}
 use Rattle.chart.specs.Read.{childrenFrom, firstState}
+use Rattle.chart.proofs.Own.{own-children}
 use Rattle.chart.specs.declared.tree.Next.{Next}
 use Rattle.chart.specs.declared.tree.Next.the-variants as next
 
@@ -25,13 +26,12 @@ has-first [] = refl
 has-first (s ∷ ss) = rw (ne-eqb (length (s ∷ ss)) 0 (λ q. omega arith))
 
 module _ (c : Chart) (s : State) {h : Header} (own : h ≡ headerOf c) where
-  pub own-children : childrenFrom c h 1 s ≡ children c s
-  unfolding childrenFrom children
-  own-children = rw own
+  pub children-read : childrenFrom c h 1 s ≡ children c s
+  children-read = rw own (own-children c s)
 
   pub has-child : {tested : Bool} {n : Next} → n ≡ firstState (childrenFrom c h 1 s) → tested ≡ found n
       → tested ≡ not (eqb (length (children c s)) 0)
-  has-child q r = rw (r, q, own-children) (has-first (children c s))
+  has-child q r = rw (r, q, children-read) (has-first (children c s))
 
 -- a leaf has none, every other state one
 pub as-leaf : (none : Bool) → not (not none) ≡ Bool·beq true none

@@ -15,7 +15,7 @@ use Rattle.rules.specs.declared.headers.Header.{Header}
 use Rattle.chart.specs.Places.{headerOf, instructionPlace}
 use Rattle.chart.specs.Read.{instructionFrom}
 use Rattle.checker.specs.declared.blocks.BlockRule.{BlockRule}
-use Rattle.checker.specs.declared.blocks.BlockRule.the-variants.{Inside, Stack, Effects}
+use Rattle.checker.specs.declared.blocks.BlockRule.the-variants.{Inside, StackUse, NothingBarred}
 use Rattle.checker.specs.declared.tables.Rule.{Rule}
 use Rattle.checker.specs.declared.tables.Rule.the-variants.{StateRecord, JunctionRecord, SegmentRecord, VariableRecord, InstructionRecord, State, JunctionParent, Segment, Instruction as AnInstruction, StateBlocks, SegmentBlocks}
 
@@ -36,8 +36,8 @@ barredIn b p k = every (λ i. B.not (barred p (opRule (i .op) .effect))) (codeIn
 
 unfoldable pub blockRuleOf : BlockRule → Chart → Place → Block → Bool
 blockRuleOf Inside c p k = blockRight c k
-blockRuleOf Stack c p k = stackUseRight c p k
-blockRuleOf Effects c p k = nothingBarred c p k
+blockRuleOf StackUse c p k = stackUseRight c p k
+blockRuleOf NothingBarred c p k = nothingBarred c p k
 
 -- a rule, at the record of a number
 unfoldable pub ruleOf : Rule → Chart → ℕ → Bool

@@ -11,6 +11,7 @@ use rules::numbers::StateNo;
 ghost use mathlib.Core.Path.{_≡_};
 ghost use Rattle.rules.specs.Lists.{every};
 ghost use mathlib.Core.List.{_∷_, []};
+ghost use Rattle.rules.specs.Chart.{Chart};
 ghost use Rattle.rules.specs.Chart as fieldsOf;
 ghost use Rattle.rules.specs.Accept as rules;
 ghost use Rattle.chart.specs.Places.{headerOf};
@@ -21,8 +22,8 @@ ghost use Rattle.checker.specs.declared.tables.Rule.the-variants.{StateB
 
 pub enum BlockRule {
     Inside,
-    Stack,
-    Effects,
+    StackUse,
+    NothingBarred,
 }
 
 // Where a block stands decides how its stack ends and what it may do.
@@ -38,9 +39,8 @@ fn is_none(block: Block) -> bool
     block.count == 0
 }
 
-fn inside(chart: &[u8], h: Header, block: Block) -> bool
-    requires { ⌜ h ≡ headerOf (now chart) ⌝ }
-    ensures { λ r. ⌜ r ≡ rules.blockRight (now (chart .entry)) (blockOf block) ⌝ }
+fn inside(h: Header, block: Block) -> bool
+    ensures { λ r. ⌜ ((c : Chart) → h ≡ headerOf c → r ≡ rules.blockRight c (blockOf block)) ⌝ }
 {
     if is_none(block) {
         block.start == 0
@@ -113,21 +113,14 @@ fn nothing_barred(table: &[u8], place: Place, block: Block) -> bool
     true
 }
 
-fn block_right(
-    chart: &[u8],
-    h: Header,
-    table: &[u8],
-    rule: BlockRule,
-    place: Place,
-    block: Block,
-) -> bool
-    requires { ⌜ Handed (now chart) h (now table) ⌝ }
-    ensures { λ r. ⌜ r ≡ blockRuleOf rule (now (chart .entry)) (placeMeant place) (blockOf block) ⌝ }
+// Whether a block of a chart is right by a rule, given the chart's header and its table of instructions.
+fn block_right(h: Header, table: &[u8], rule: BlockRule, place: Place, block: Block) -> bool
+    ensures { λ r. ⌜ ((c : Chart) → Handed c h (now (table .entry)) → r ≡ blockRuleOf rule c (placeMeant place) (blockOf block)) ⌝ }
 {
     match rule {
-        BlockRule::Inside => inside(chart, h, block),
-        BlockRule::Stack => stack_right(table, place, block),
-        BlockRule::Effects => nothing_barred(table, place, block),
+        BlockRule::Inside => inside(h, block),
+        BlockRule::StackUse => stack_right(table, place, block),
+        BlockRule::NothingBarred => nothing_barred(table, place, block),
     }
 }
 
@@ -139,9 +132,9 @@ pub fn of_state(chart: &[u8], h: Header, rule: BlockRule, s: StateNo) -> bool
     let entry = states::entry(chart, s);
     let during = states::during(chart, s);
     let exit = states::exit(chart, s);
-    let first = block_right(chart, h, table, rule, Place::Action, entry);
-    let second = block_right(chart, h, table, rule, Place::SendingAction, during);
-    let third = block_right(chart, h, table, rule, Place::Action, exit);
+    let first = block_right(h, table, rule, Place::Action, entry);
+    let second = block_right(h, table, rule, Place::SendingAction, during);
+    let third = block_right(h, table, rule, Place::Action, exit);
     first & (second & third)
 }
 
@@ -153,9 +146,9 @@ pub fn of_segment(chart: &[u8], h: Header, rule: BlockRule, t: SegmentNo) -> boo
     let condition = segments::condition(chart, h, t);
     let action = segments::condition_action(chart, h, t);
     let transition = segments::transition_action(chart, h, t);
-    let first = block_right(chart, h, table, rule, Place::Condition, condition);
-    let second = block_right(chart, h, table, rule, Place::SendingAction, action);
-    let third = block_right(chart, h, table, rule, Place::Action, transition);
+    let first = block_right(h, table, rule, Place::Condition, condition);
+    let second = block_right(h, table, rule, Place::SendingAction, action);
+    let third = block_right(h, table, rule, Place::Action, transition);
     first & (second & third)
 }
 

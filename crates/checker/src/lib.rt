@@ -113,10 +113,10 @@ pub fn refusal(chart: &[u8]) -> u8
     if !tables::every(chart, h, Rule::Instruction) {
         return 9;
     }
-    if !every_block(chart, h, BlockRule::Stack) {
+    if !every_block(chart, h, BlockRule::StackUse) {
         return 10;
     }
-    if !every_block(chart, h, BlockRule::Effects) {
+    if !every_block(chart, h, BlockRule::NothingBarred) {
         return 11;
     }
     0

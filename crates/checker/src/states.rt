@@ -36,7 +36,7 @@ fn children_right(chart: &[u8], h: Header, s: StateNo) -> bool
     requires { ⌜ h ≡ headerOf (now chart) ⌝ }
     ensures { λ r. ⌜ r ≡ rules.childrenRight (now (chart .entry)) (s .0) ⌝ }
 {
-    if states::kind(chart, s) == 0 {
+    if states::kind(chart, s) == states::LEAF {
         !has_child(chart, h, s)
     } else {
         has_child(chart, h, s)
@@ -48,7 +48,7 @@ fn initial_right(chart: &[u8], h: Header, s: StateNo) -> bool
     ensures { λ r. ⌜ r ≡ rules.initialRight (now (chart .entry)) (s .0) ⌝ }
 {
     let initial = states::initial(chart, s);
-    if states::kind(chart, s) == 1 {
+    if states::kind(chart, s) == states::ONE_OF {
         tree::is_child(chart, h, initial, s)
     } else {
         initial.0 == 0
@@ -59,7 +59,11 @@ fn initial_right(chart: &[u8], h: Header, s: StateNo) -> bool
 fn most_history(chart: &[u8], s: StateNo) -> u8
     ensures { λ r. ⌜ r ≡ (if isOneOf (now (chart .entry)) (s .0) then 1 else 0) ⌝ }
 {
-    if states::kind(chart, s) == 1 { 1 } else { 0 }
+    if states::kind(chart, s) == states::ONE_OF {
+        1
+    } else {
+        0
+    }
 }
 
 fn history_right(chart: &[u8], s: StateNo) -> bool
@@ -72,7 +76,7 @@ pub fn state_right(chart: &[u8], h: Header, s: StateNo) -> bool
     requires { ⌜ h ≡ headerOf (now chart) ⌝ }
     ensures { λ r. ⌜ r ≡ rules.stateRight (now (chart .entry)) (s .0) ⌝ }
 {
-    let kind = states::kind(chart, s) <= 2;
+    let kind = states::kind(chart, s) <= states::ALL_OF;
     let parent = parent_right(chart, s);
     let depth = tree::over(chart, StateNo(0), s);
     let children = children_right(chart, h, s);

@@ -207,21 +207,17 @@ fn cut(what: &[u8], chart: &[u8], length: usize) {
     }
 }
 
-// The chart with one byte put to another.
-fn damaged(what: &[u8], at: u32, byte: u8) {
-    let mut chart = [0u8; LENGTH];
-    taken(&mut chart);
-    put(&mut chart, at, byte);
-    answered(what, &chart);
-}
-
-// With two.
+// The chart with two bytes put to others.
 fn damaged_twice(what: &[u8], at: u32, byte: u8, second: u32, other: u8) {
     let mut chart = [0u8; LENGTH];
     taken(&mut chart);
     put(&mut chart, at, byte);
     put(&mut chart, second, other);
     answered(what, &chart);
+}
+
+fn damaged(what: &[u8], at: u32, byte: u8) {
+    damaged_twice(what, at, byte, at, byte);
 }
 
 fn lengths() {

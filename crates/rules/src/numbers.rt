@@ -2,6 +2,11 @@
 
 pub struct StateNo(pub u8);
 
+impl StateNo {
+    // The depth of the deepest state, the root's being 0.
+    pub const DEEPEST: u8 = 8;
+}
+
 pub struct JunctionNo(pub u8);
 
 pub struct SegmentNo(pub u16);

@@ -11,6 +11,7 @@ use Rattle.rules.specs.Types.{fitsOf}
 use Rattle.rules.specs.Accept.{chartRefusal}
 use Rattle.rules.specs.declared.headers.Header.{Header}
 use Rattle.chart.specs.Places.{headerOf, instructionPlace}
+use Rattle.chart.proofs.Own.{own-total}
 use Rattle.checker.specs.Rules.{ruleOf, blockRuleOf}
 use Rattle.checker.proofs.Chains.{refusalFrom, passed, broken, after, in-order}
 use borrow.Author.Needs.{needs}
@@ -20,8 +21,7 @@ use Rattle.checker.proofs.refusal.Tie as tie
 -- the length against the total that was computed
 module _ (c : Chart) {h : Header} {n : ℕ} (own : h ≡ headerOf c) (e : n ≡ instructionPlace h (h .instructions)) where
   whole : n ≡ total c
-  unfolding total
-  whole = e ∙ ap (λ (x : Header). instructionPlace x (x .instructions)) own
+  whole = e ∙ ap (λ (x : Header). instructionPlace x (x .instructions)) own ∙ own-total c
 
   same-total : length c ≡ n → eqb (length c) (total c) ≡ true
   same-total f = eq-eqb (length c) (total c) (f ∙ whole)

@@ -1,8 +1,8 @@
 -- Each rule by itself; the table's instructions are the chart's. Assumes nothing.
 use mathlib.Core.Path.{_∙_}
-use borrow.Author.Needs.{needs}
 use Rattle.checker.specs.Rules.{blockRuleOf}
 use Rattle.checker.proofs.Parts.{stack-in, barred-in}
+use borrow.Author.Needs.{needs}
 use Rattle.checker.proofs.blocks.block_right.Statement.{statement}
 use Rattle.checker.proofs.blocks.block_right.Tie as tie
 
@@ -26,15 +26,15 @@ nothing-barred-requires c κs = search needs
 
 returns : tie.Need-returns
 unfolding blockRuleOf
-returns c = rw (c .before .enum-told .given .1) (c .inside .ensures)
+returns c chart own = rw (c .before .enum-told .given .1) (c .inside .ensures chart (own .header))
 
 returns-2 : tie.Need-returns-2
 unfolding blockRuleOf
-returns-2 c = rw (c .before .enum-told2 .given .1) (c .stack-right .ensures ∙ stack-in (c .before .before .before .before .before .pre) _ _)
+returns-2 c chart own = rw (c .before .enum-told2 .given .1) (c .stack-right .ensures ∙ stack-in own _ _)
 
 returns-3 : tie.Need-returns-3
 unfolding blockRuleOf
-returns-3 c = rw (c .before .enum-told3 .given .1) (c .nothing-barred .ensures ∙ barred-in (c .before .before .before .before .before .pre) _ _)
+returns-3 c chart own = rw (c .before .enum-told3 .given .1) (c .nothing-barred .ensures ∙ barred-in own _ _)
 
 pub block-right-spec : {M : Type 1} → statement M
 block-right-spec =

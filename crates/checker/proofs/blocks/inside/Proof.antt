@@ -1,8 +1,8 @@
 -- A block with no instructions and one with some, each by itself; the header's count is the chart's. Assumes nothing.
 use mathlib.Core.Path.{sym, _∙_}
-use borrow.Author.Needs.{needs}
 use Rattle.rules.specs.Accept.{blockRight}
 use Rattle.rules.specs.Lists.{if_then_else_}
+use borrow.Author.Needs.{needs}
 use Rattle.checker.proofs.blocks.inside.Statement.{statement}
 use Rattle.checker.proofs.blocks.inside.Tie as tie
 
@@ -23,13 +23,11 @@ cast-result-3 c = search needs
 
 returns : tie.Need-returns
 unfolding blockRight if_then_else_
-returns c = rw (sym (c .before .before .is-none .ensures) ∙ c .before .if1 .taken)
+returns c chart own = rw (sym (c .before .before .is-none .ensures) ∙ c .before .if1 .taken)
 
 returns-2 : tie.Need-returns-2
 unfolding blockRight if_then_else_
-returns-2 c =
-    let some = sym (c .before .before .before .before .is-none .ensures) ∙ c .before .before .before .if1 .left in
-    rw (some, c .before .before .before .before .before .before .pre)
+returns-2 c chart own = rw (sym (c .before .before .before .before .is-none .ensures) ∙ c .before .before .before .if1 .left, own)
 
 pub inside-spec : {M : Type 1} → statement M
 inside-spec =

@@ -1,7 +1,7 @@
 -- The rule at each of the state's three blocks. Assumes nothing.
 use mathlib.Core.Bool.{and-assoc}
+use Rattle.checker.specs.Rules.{Handed, ruleOf}
 use borrow.Author.Needs.{needs}
-use Rattle.checker.specs.Rules.{ruleOf}
 use Rattle.checker.proofs.blocks.of_state.Statement.{statement}
 use Rattle.checker.proofs.blocks.of_state.Tie as tie
 
@@ -29,10 +29,11 @@ block-right-requires-3 c κs = search needs
 returns : tie.Need-returns
 unfolding ruleOf
 returns c =
+    let own : Handed (c .before .before .before .before .before .before .before .before .args .chart .now) (c .before .before .before .before .before .before .before .before .args .h) (c .before .before .before .before .before .before .table .result .now) = record { header = c .before .before .before .before .before .before .before .before .pre; code = c .before .before .before .before .before .before .table .ensures } in
     rw (
-      c .before .before .block-right .ensures,
-      c .before .block-right2 .ensures,
-      c .block-right3 .ensures,
+      c .before .before .block-right .ensures (c .before .before .before .before .before .before .before .before .args .chart .now) own,
+      c .before .block-right2 .ensures (c .before .before .before .before .before .before .before .before .args .chart .now) own,
+      c .block-right3 .ensures (c .before .before .before .before .before .before .before .before .args .chart .now) own,
       c .before .before .before .before .before .entry .ensures,
       c .before .before .before .before .during .ensures,
       c .before .before .before .exit .ensures,

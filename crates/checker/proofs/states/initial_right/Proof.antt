@@ -4,7 +4,7 @@ use borrow.Author.Needs.{needs}
 use borrow.Author.Tests.{eq-eqb, ne-eqb}
 use Rattle.rules.specs.Lists.{if_then_else_}
 use Rattle.rules.specs.Accept.{initialRight}
-use Rattle.checker.proofs.Children.{own-children}
+use Rattle.checker.proofs.Children.{children-read}
 use Rattle.checker.proofs.states.initial_right.Statement.{statement}
 use Rattle.checker.proofs.states.initial_right.Tie as tie
 
@@ -23,7 +23,7 @@ returns c =
     let s = c .before .before .before .before .before in
     rw (
       c .is-child .ensures,
-      own-children (s .args .chart .now) (s .args .s .0) (s .pre),
+      children-read (s .args .chart .now) (s .args .s .0) (s .pre),
       c .before .before .before .initial .ensures,
       eq-eqb _ 1 (sym (c .before .before .kind .ensures) ∙ c .before .if1 .taken),
     )
