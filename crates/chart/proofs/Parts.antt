@@ -20,6 +20,19 @@ past-end b i j e h =
     let past : length b ≤ j = omega arith in
     from-place b (length b) (length b) refl ∙ drop-of-length-le b {i = length b} (omega arith) ∙ sym (drop-of-length-le b past)
 
+-- n from a place on, as far as the list has them: all of them, some, none
+pub part-inside : (b : List ℕ) (i j e n : ℕ) → i ≡ j → e ≡ i + n → take (e - i) (drop i b) ≡ take n (drop j b)
+part-inside b i j e n same end =
+    let many : e - i ≡ n = omega arith in
+    rw many (ap (λ (k : ℕ). take n (drop k b)) same)
+
+pub part-cut : (b : List ℕ) (i j n : ℕ) → i ≡ j → length b ≤ i + n → take (length b - i) (drop i b) ≡ take n (drop j b)
+part-cut b i j n same h = from-place b i j same ∙ sym (take-all n (drop j b) (rw length-drop (omega arith)))
+
+pub part-past : (b : List ℕ) (i j n : ℕ) → i ≡ j → length b ≤ i
+    → take (length b - length b) (drop (length b) b) ≡ take n (drop j b)
+part-past b i j n same h = past-end b i j same h ∙ sym (take-all n (drop j b) (rw length-drop (omega arith)))
+
 -- instructions with the same fields are the same
 pub same-fields : {o p : Op} {a d : ℕ} {b e : ℤ} → o ≡ p → a ≡ d → b ≡ e
     → _≡_ {A = Instruction} (record { op = o; a = a; b = b }) (record { op = p; a = d; b = e })

@@ -1,12 +1,13 @@
 // An instruction.
+use crate::blocks::Block;
 use crate::ops;
 use crate::ops::Op;
 use crate::places;
 use rules::headers::Header;
 ghost use mathlib.Core.Path.{_≡_};
-ghost use Prim.Native.Nat.{_+_};
-ghost use lib.ListN.{drop};
-ghost use Rattle.rules.specs.Bytes.{byte};
+ghost use Prim.Native.Nat.{_+_, _*_};
+ghost use lib.ListN.{take, drop};
+ghost use Rattle.rules.specs.Bytes.{byte, field, signed};
 ghost use Rattle.rules.specs.Chart.{opOf};
 ghost use Rattle.chart.specs.Places.{instructionPlace};
 ghost use Rattle.chart.specs.Read.{opMeant, instructionOf, instructionFrom};
@@ -24,14 +25,26 @@ pub fn op_at(bytes: &[u8], place: u32) -> Op
     ops::numbered(fields::u8_at(bytes, place as usize + 2))
 }
 
+// Its operands.
+pub fn a_at(bytes: &[u8], place: u32) -> u8
+    ensures { λ r. ⌜ r ≡ byte (now (bytes .entry)) (place + 3) ⌝ }
+{
+    fields::u8_at(bytes, place as usize + 3)
+}
+
+pub fn b_at(bytes: &[u8], place: u32) -> i16
+    ensures { λ r. ⌜ r ≡ signed 2 (field 2 (now (bytes .entry)) (place + 4)) ⌝ }
+{
+    fields::i16_at(bytes, place as usize + 4)
+}
+
 pub fn at(bytes: &[u8], place: u32) -> Instruction
     ensures { λ r. ⌜ instructionOf r ≡ instructionFrom (now (bytes .entry)) place ⌝ }
 {
-    let first = place as usize;
     Instruction {
         op: op_at(bytes, place),
-        a: fields::u8_at(bytes, first + 3),
-        b: fields::i16_at(bytes, first + 4),
+        a: a_at(bytes, place),
+        b: b_at(bytes, place),
     }
 }
 
@@ -46,4 +59,20 @@ pub fn table(chart: &[u8], h: Header) -> &[u8]
     } else {
         &chart[length..]
     }
+}
+
+// A block's part of the chart, as far as the chart has it.
+pub fn of_block(chart: &[u8], h: Header, block: Block) -> &[u8]
+    ensures { λ r. ⌜ now r ≡ take (6 * block .count) (drop (instructionPlace h (block .start)) (now (chart .entry))) ⌝ }
+{
+    let length = chart.len();
+    let start = places::instruction(h, block.start) as usize;
+    let end = start + 6 * (block.count as usize);
+    if end <= length {
+        return &chart[start..end];
+    }
+    if start < length {
+        return &chart[start..];
+    }
+    &chart[length..]
 }

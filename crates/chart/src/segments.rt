@@ -8,6 +8,7 @@ use rules::numbers::SegmentNo;
 use rules::numbers::StateNo;
 ghost use mathlib.Core.Path.{_≡_};
 ghost use Prim.Native.Nat.{_+_};
+ghost use lib.Dec.{eqb};
 ghost use Rattle.rules.specs.Bytes.{byte};
 ghost use Rattle.rules.specs.Chart.{blockAt};
 ghost use Rattle.chart.specs.Places.{segmentPlace};
@@ -77,6 +78,25 @@ pub fn destination_of(chart: &[u8], h: Header, t: SegmentNo) -> Destination
     ensures { λ r. ⌜ r ≡ destinationNamed (byte (now (chart .entry)) (segmentPlace h (t .0) + 4)) (byte (now (chart .entry)) (segmentPlace h (t .0) + 5)) ⌝ }
 {
     destination_named(byte_of(chart, h, t, 4), byte_of(chart, h, t, 5))
+}
+
+pub fn ends_on_state(chart: &[u8], h: Header, t: SegmentNo) -> bool
+    ensures { λ r. ⌜ r ≡ eqb (byte (now (chart .entry)) (segmentPlace h (t .0) + 4)) 0 ⌝ }
+{
+    byte_of(chart, h, t, 4) == 0
+}
+
+// The state that it ends on, where it does; else the junction.
+pub fn end_state(chart: &[u8], h: Header, t: SegmentNo) -> StateNo
+    ensures { λ r. ⌜ r .0 ≡ byte (now (chart .entry)) (segmentPlace h (t .0) + 5) ⌝ }
+{
+    StateNo(byte_of(chart, h, t, 5))
+}
+
+pub fn end_junction(chart: &[u8], h: Header, t: SegmentNo) -> JunctionNo
+    ensures { λ r. ⌜ r .0 ≡ byte (now (chart .entry)) (segmentPlace h (t .0) + 5) ⌝ }
+{
+    JunctionNo(byte_of(chart, h, t, 5))
 }
 
 pub fn event(chart: &[u8], h: Header, t: SegmentNo) -> u8

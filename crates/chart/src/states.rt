@@ -53,6 +53,18 @@ pub fn history(chart: &[u8], s: StateNo) -> u8
     byte_of(chart, s, 5)
 }
 
+pub fn is_one_of(chart: &[u8], s: StateNo) -> bool
+    ensures { λ r. ⌜ r ≡ rules.isOneOf (now (chart .entry)) (s .0) ⌝ }
+{
+    kind(chart, s) == ONE_OF
+}
+
+pub fn keeps_history(chart: &[u8], s: StateNo) -> bool
+    ensures { λ r. ⌜ r ≡ rules.keepsHistory (now (chart .entry)) (s .0) ⌝ }
+{
+    history(chart, s) == 1
+}
+
 pub fn entry(chart: &[u8], s: StateNo) -> Block
     ensures { λ r. ⌜ blockOf r ≡ rules.entry (now (chart .entry)) (s .0) ⌝ }
 {

@@ -42,7 +42,7 @@ unfolding Doing.because Doing.give Doing.done Doing.refuse Doing._>>=_ Doing._>>
 doing = tt
 
 unfoldable pub block : Unit {0}
-unfolding Block.unlessAbandoned Block.top Block.lower Block.binary Block.checked Block.divided Block.gone Block.noSending Block.instruct Block.perform Block.action
+unfolding Block.unlessAbandoned Block.top Block.lower Block._onto_ Block.binary Block.checked Block.divided Block.gone Block.noSend Block.sentBy Block.instruct Block.perform Block.action
 block = tt
 
 unfoldable pub search : Unit {0}

@@ -9,7 +9,7 @@ use lib.ListN.{length, getD}
 use lib.IntN.{ℤ, pos, negsuc}
 use Rattle.rules.specs.Bytes.{Bytes, byte, ascii, isZero}
 use Rattle.rules.specs.Lists.{if_then_else_, below, within, every, all, isIn}
-use Rattle.rules.specs.Chart.{State, Segment, Chart, headerSize, mostStates, mostVariables, Block, Op, push, load, store, add, subtract, multiply, quotient, remainder, less, equal, not, raise, send, unknown, Instruction, states, junctions, segments, variables, events, outputs, instructions, stateAt, junctionAt, segmentAt, variableAt, instructionAt, total, parent, kind, initial, history, entry, during, exit, junctionParent, sourceKind, source, destinationKind, destination, event, condition, conditionAction, transitionAction, instruction, code, isOneOf, children, over}
+use Rattle.rules.specs.Chart.{State, Segment, Chart, headerSize, mostStates, mostVariables, stackPlaces, Block, Op, push, load, store, add, subtract, multiply, quotient, remainder, less, equal, not, raise, send, unknown, Instruction, states, junctions, segments, variables, events, outputs, instructions, stateAt, junctionAt, segmentAt, variableAt, instructionAt, total, parent, kind, initial, history, entry, during, exit, junctionParent, sourceKind, source, destinationKind, destination, event, condition, conditionAction, transitionAction, instruction, code, isOneOf, children, over}
 
 -- the refusal k unless the test passes: then what follows decides
 infixr 10 _unless_next_
@@ -91,7 +91,7 @@ depthAfter d i = d - opRule (i .op) .takes + opRule (i .op) .gives
 unfoldable pub stackRight : ℕ → ℕ → List Instruction → Bool
 stackRight e d [] = eqb d e
 stackRight e d (i ∷ is) =
-    leb (opRule (i .op) .takes) d && leb (depthAfter d i) 16 && stackRight e (depthAfter d i) is
+    leb (opRule (i .op) .takes) d && leb (depthAfter d i) stackPlaces && stackRight e (depthAfter d i) is
 
 -- 3: states, junctions, segments, variables, events, outputs and instructions
 unfoldable pub countsRight : ℕ → ℕ → ℕ → ℕ → ℕ → ℕ → ℕ → Bool

@@ -1,14 +1,15 @@
 -- A block of instructions is performed. Assumes nothing.
-use mathlib.Core.Bool.{Bool}
+use mathlib.Core.Bool.{Bool, false}
 use mathlib.Core.Bool as B
 use mathlib.Core.List.{List, [], _∷_}
 use Prim.Native.Nat.{ℕ}
-use lib.ListN.{getD, drop}
+use lib.Dec.{ltb}
+use lib.ListN.{length, getD, drop}
 use lib.IntN.{ℤ, pos, _+ℤ_, _-ℤ_, _*ℤ_, natAbs}
 use lib.Signed.{ltZ, quotZ, remZ}
 use Rattle.rules.specs.Bytes.{fits, equals, isZero, truth}
 use Rattle.rules.specs.Lists.{if_then_else_}
-use Rattle.rules.specs.Chart.{State, Chart, Block, Op, push, load, store, add, subtract, multiply, quotient, remainder, less, equal, not, raise, send, unknown, Instruction, code}
+use Rattle.rules.specs.Chart.{State, Chart, stackPlaces, Block, Op, push, load, store, add, subtract, multiply, quotient, remainder, less, equal, not, raise, send, unknown, Instruction, code}
 use Rattle.rules.specs.Image.{Image, isActive, variable, setVariable}
 use Rattle.rules.specs.Doing.{Doing, Done, give, done, refuse, _>>=_, _>>_, look, change, pay, outputRaised, note}
 
@@ -31,9 +32,14 @@ top st = getD st 0 (pos 0)
 unfoldable pub lower : Stack → ℤ
 lower st = getD st 1 (pos 0)
 
+-- a value goes onto the stack; where all places are taken, as in no block of an accepted chart, it is dropped
+infixr 5 _onto_
+unfoldable pub _onto_ : ℤ → Stack → Stack
+z onto st = if ltb (length st) stackPlaces then z ∷ st else st
+
 -- a binary op takes lower, then top
 unfoldable pub binary : (ℤ → ℤ → ℤ) → Stack → Doing Ran
-binary f st = give (ran (f (lower st) (top st) ∷ drop 2 st))
+binary f st = give (ran (f (lower st) (top st) onto drop 2 st))
 
 -- the same, or 17 where the result does not fit
 unfoldable pub checked : (ℤ → ℤ → ℤ) → Stack → Doing Ran
@@ -51,19 +57,25 @@ gone owner im = B.not (isActive im owner)
 abbrev pub Sending : Type 0
 Sending = ℕ → State → Done
 
--- for blocks in which a send is barred
-unfoldable pub noSending : Sending
-noSending e b = done
+-- a send from a block, and whether the rest of the block is abandoned then
+abbrev pub Sent : Type 0
+Sent = ℕ → State → Doing Bool
 
-module _ (sending : Sending) (owner : State) where
+-- where a send is barred
+unfoldable pub noSend : Sent
+noSend e b = give false
+
+unfoldable pub sentBy : State → Sending → Sent
+sentBy owner sending e b = do
+  sending e b
+  im ← look
+  give (gone owner im)
+
+module _ (sent : Sent) where
   unfoldable pub instruct : Op → Instruction → Stack → Doing Ran
-  instruct push i st = give (ran (i .b ∷ st))
-  instruct load i st = do
-    im ← look
-    give (ran (variable im (i .a) ∷ st))
-  instruct store i st = do
-    change (λ im. setVariable im (i .a) (top st))
-    give (ran (drop 1 st))
+  instruct push i st = give (ran (i .b onto st))
+  instruct load i st = look >>= (λ im. give (ran (variable im (i .a) onto st)))
+  instruct store i st = change (λ im. setVariable im (i .a) (top st)) >> give (ran (drop 1 st))
   instruct add i st = checked _+ℤ_ st
   instruct subtract i st = checked _-ℤ_ st
   instruct multiply i st = checked _*ℤ_ st
@@ -71,14 +83,9 @@ module _ (sending : Sending) (owner : State) where
   instruct remainder i st = divided st (binary remZ st)
   instruct less i st = binary (λ x y. truth (ltZ x y)) st
   instruct equal i st = binary (λ x y. truth (equals x y)) st
-  instruct not i st = give (ran (truth (isZero (top st)) ∷ drop 1 st))
-  instruct raise i st = do
-    note outputRaised (i .a)
-    give (ran st)
-  instruct send i st = do
-    sending (i .a) (natAbs (i .b))
-    im ← look
-    give (if gone owner im then abandoned else ran st)
+  instruct not i st = give (ran (truth (isZero (top st)) onto drop 1 st))
+  instruct raise i st = note outputRaised (i .a) >> give (ran st)
+  instruct send i st = sent (i .a) (natAbs (i .b)) >>= (λ b. give (if b then abandoned else ran st))
   instruct unknown i st = give (ran st)
 
   unfoldable pub perform : Stack → List Instruction → Doing Ran
@@ -90,6 +97,4 @@ module _ (sending : Sending) (owner : State) where
 
 -- an action that cannot send
 unfoldable pub action : Chart → Block → Done
-action c k = do
-  perform noSending 0 [] (code c k)
-  done
+action c k = perform noSend [] (code c k) >> done

@@ -35,6 +35,9 @@ mostVariables = 32
 abbrev pub deepest : ℕ
 deepest = 8
 
+abbrev pub stackPlaces : ℕ
+stackPlaces = 16
+
 pub record Block : Type 0 where
   pub start : ℕ
   pub count : ℕ

@@ -100,9 +100,7 @@ note act number = λ n. noteIn (n .room) (itemOf act number) n
 -- for each of a list in turn
 unfoldable pub each : (ℕ → Done) → List ℕ → Done
 each f [] = done
-each f (x ∷ xs) = do
-  f x
-  each f xs
+each f (x ∷ xs) = f x >> each f xs
 
 unfoldable pub whenActive : State → Done → Done
 whenActive s m = λ n. if isActive (n .image) s then m n else done n

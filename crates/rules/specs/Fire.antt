@@ -43,9 +43,7 @@ module _ (c : Chart) where
       if isOneOf c s then (onTheWay s target else recorded im s else initial c s) ∷ [] else children c s
 
   unfoldable pub enterEach : (State → Done) → State → State → Done
-  enterEach f target s = do
-    im ← look
-    each f (entered s target im)
+  enterEach f target s = look >>= (λ im. each f (entered s target im))
 
   unfoldable pub enter : ℕ → State → State → Done
   enter zero target s = done
@@ -70,9 +68,7 @@ module _ (c : Chart) where
       if eqb source target && eqb source (common source target path) then parent c source else common source target path
 
   unfoldable pub transit : Segment → Done
-  transit t = do
-    note transitionPerformed t
-    action c (transitionAction c t)
+  transit t = note transitionPerformed t >> action c (transitionAction c t)
 
   unfoldable pub fire : State → State → List Segment → Done
   fire source target path = do

@@ -6,7 +6,7 @@ use Rattle.rules.specs.Lists.{if_then_else_, first}
 use Rattle.rules.specs.Chart.{State, Chart, during, isOneOf, children, outer, inner, code}
 use Rattle.rules.specs.Image.{isActive, notStarted}
 use Rattle.rules.specs.Doing.{Done, done, refuse, _>>=_, _>>_, look, pay, duringPoint, note, each, whenActive}
-use Rattle.rules.specs.Block.{unlessAbandoned, Sending, perform}
+use Rattle.rules.specs.Block.{unlessAbandoned, Sending, sentBy, perform}
 use Rattle.rules.specs.Search.{Found, reached, nowhere, ended, cut, search}
 use Rattle.rules.specs.Fire.{levels, enter, fire}
 
@@ -31,15 +31,13 @@ module _ (c : Chart) where
   module _ (sending : Sending) (e : ℕ) where
     -- after the during action: inner segments, then the children
     unfoldable pub runInside : (State → Done) → State → Done
-    runInside f p = do
-      o ← search c sending e p (inner c p)
-      follow p o (runChildren f p)
+    runInside f p = search c sending e p (inner c p) >>= (λ o. follow p o (runChildren f p))
 
     -- no outer segment reached a state
     unfoldable pub runDuring : (State → Done) → State → Done
     runDuring f p = do
       note duringPoint p
-      r ← perform sending p [] (code c (during c p))
+      r ← perform (sentBy p sending) [] (code c (during c p))
       unlessAbandoned r tt (λ _. runInside f p)
 
     unfoldable pub run : ℕ → State → Done

@@ -10,7 +10,7 @@ use Rattle.rules.specs.Lists.{if_then_else_}
 use Rattle.rules.specs.Chart.{State, Segment, Chart, event, condition, conditionAction, destination, endsOnState, own, code}
 use Rattle.rules.specs.Accept.{isNone}
 use Rattle.rules.specs.Doing.{Doing, give, refuse, _>>=_, _>>_, pay, segmentPassed, note}
-use Rattle.rules.specs.Block.{unlessAbandoned, top, Sending, noSending, perform}
+use Rattle.rules.specs.Block.{unlessAbandoned, top, Sending, noSend, sentBy, perform}
 
 pub data Found : Type 0 where
   -- a target state, and the path to it
@@ -33,7 +33,7 @@ module _ (c : Chart) where
   -- an empty condition holds
   unfoldable pub holds : Segment → Doing Bool
   holds t = if isNone (condition c t) then give true else (do
-    r ← perform noSending 0 [] (code c (condition c t))
+    r ← perform noSend [] (code c (condition c t))
     unlessAbandoned r false (λ st. give (B.not (isZero (top st)))))
 
   -- the event is 0 or the current event, and the condition, performed only then, is non-zero
@@ -55,7 +55,7 @@ module _ (c : Chart) where
     passed zero path t = refuse 19
     passed (suc n) path t = do
       note segmentPassed t
-      r ← perform sending source [] (code c (conditionAction c t))
+      r ← perform (sentBy source sending) [] (code c (conditionAction c t))
       unlessAbandoned r cut (λ _.
           if endsOnState c t then give (reached (destination c t) (path ++ (t ∷ [])))
           else if eqb (length (own c (destination c t))) 0 then give ended

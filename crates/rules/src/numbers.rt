@@ -5,6 +5,9 @@ pub struct StateNo(pub u8);
 impl StateNo {
     // The depth of the deepest state, the root's being 0.
     pub const DEEPEST: u8 = 8;
+
+    // The root and the levels below it.
+    pub const LEVELS: u8 = 9;
 }
 
 pub struct JunctionNo(pub u8);

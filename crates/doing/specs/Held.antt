@@ -1,0 +1,23 @@
+-- What the code holds of a step, as the rules have it. Assumes nothing.
+use mathlib.Core.List.{List}
+use Prim.Native.Nat.{ℕ, _-_}
+use lib.ListN.{length, take}
+use Rattle.rules.specs.Image.{Image}
+use Rattle.rules.specs.Doing.{Refusal, because, Now, Outcome, refused, went}
+use Rattle.doing.specs.declared.Refusal.{Refusal as CodeRefusal}
+use Rattle.doing.specs.declared.Counts.{Counts}
+use Rattle.doing.specs.declared.Done.{Done}
+use Rattle.doing.specs.declared.Done.the-variants.{Refused, Went}
+
+abbrev pub refusalOf : CodeRefusal → Refusal
+refusalOf r = because (r .number)
+
+-- an image, a trace of words whose length is the room for items, and the counts
+abbrev pub nowOf : Image → List ℕ → Counts → Now
+nowOf im tr k =
+    record { image = im; units = k .units; room = length tr - k .items; trace = take (k .items) tr }
+
+-- an answer, with the image and the trace that it leaves
+abbrev pub outcomeOf : Done → Image → List ℕ → Outcome (Unit {0})
+outcomeOf (Refused r) im tr = refused (refusalOf r)
+outcomeOf (Went k) im tr = went tt (nowOf im tr k)
