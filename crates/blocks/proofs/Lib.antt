@@ -1,0 +1,4 @@
+pub mod Arithmetic
+pub mod Stacked
+pub mod Instructing
+pub mod Performing

@@ -1,0 +1,4 @@
+pub mod Values
+pub mod Stacks
+pub mod Performed
+pub mod Code
