@@ -1,0 +1,5 @@
+pub mod Follows
+pub mod Leaves
+pub mod Enters
+pub mod Lowest
+pub mod Fires

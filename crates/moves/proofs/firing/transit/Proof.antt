@@ -1,0 +1,62 @@
+-- `firing::transit` meets its contract: the item, then the action. Assumes nothing.
+use Rattle.rules.specs.Doing.{transitionPerformed}
+use Rattle.doing.specs.Held.{nowOf}
+use Rattle.moves.proofs.Fires.{transit-unnoted, transit-noted}
+use borrow.Author.Needs.{needs}
+use Rattle.moves.proofs.firing.transit.Statement.{statement}
+use Rattle.moves.proofs.firing.transit.Tie as tie
+
+transition-requires : tie.Need-transition-requires
+transition-requires c κs = search needs
+
+note-requires : tie.Need-note-requires
+note-requires c κs = search needs
+
+enum-known-noted : tie.Need-enum-known-noted
+enum-known-noted c = search needs
+
+enum-told : tie.Need-enum-told
+enum-told c = search needs
+
+same-length : tie.Need-same-length
+same-length c = search needs
+
+returns : tie.Need-returns
+returns c =
+    let a = c .before .before .before .before .before .before .before .before .before .before .args in
+    transit-unnoted (a .chart .now) (a .t .0) (nowOf (a .image .now) (a .trace .now) (a .counts)) _ _
+    (c .before .before .before .before .note .ensures _ transitionPerformed _ (c .before .before .before .before .before .transition .ensures)) _ (c .enum-told .given .1)
+
+transition-action-requires : tie.Need-transition-action-requires
+transition-action-requires c κs = search needs
+
+perform-requires : tie.Need-perform-requires
+perform-requires c κs = search needs
+
+same-length-2 : tie.Need-same-length-2
+same-length-2 c = search needs
+
+same-length-3 : tie.Need-same-length-3
+same-length-3 c = search needs
+
+returns-2 : tie.Need-returns-2
+returns-2 c =
+    let a = c .before .before .before .before .before .before .before .before .before .before .before .before .before .before .before .before .before .before .before .args in
+    transit-noted (a .chart .now) (a .t .0) (nowOf (a .image .now) (a .trace .now) (a .counts)) _ _
+    (c .before .before .before .before .before .before .before .before .before .before .before .before .before .note .ensures _ transitionPerformed _ (c .before .before .before .before .before .before .before .before .before .before .before .before .before .before .transition .ensures)) _ (c .before .before .before .before .before .before .before .before .before .noted .given .1) (rw (c .before .before .before .before .before .before .before .transition-action .ensures, c .before .before .before .before .before .before .before .before .before .before .before .before .before .before .before .before .before .before .before .pre) at (c .before .before .before .before .perform .ensures))
+
+pub transit-spec : {M : Type 1} → statement M
+transit-spec =
+    tie.close
+    (tie.spec
+    transition-requires
+    note-requires
+    enum-known-noted
+    enum-told
+    same-length
+    returns
+    transition-action-requires
+    perform-requires
+    same-length-2
+    same-length-3
+    returns-2)
