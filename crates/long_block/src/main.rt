@@ -8,7 +8,7 @@ use doing::Done;
 use image::variables;
 use libc::STDOUT_FILENO;
 
-const ROUNDS: u32 = 40000;
+const ROUNDS: u32 = 100000;
 
 const COUNT: u8 = 255;
 

@@ -10,7 +10,7 @@ abbrev Inv-loop : tie.InvT-loop
 Inv-loop chart image₀ counter₀ image counter = length image ≡ length image₀
 
 abbrev μ-loop : tie.MeasureT-loop
-μ-loop chart image₀ counter₀ image counter = 40000 - counter
+μ-loop chart image₀ counter₀ image counter = 100000 - counter
 
 loop-holds : tie.Need-loop-holds Inv-loop μ-loop
 loop-holds c = search needs
