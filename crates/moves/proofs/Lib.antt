@@ -2,4 +2,3 @@ pub mod Follows
 pub mod Leaves
 pub mod Enters
 pub mod Lowest
-pub mod Fires

@@ -5,3 +5,4 @@ pub mod BeyondCases
 pub mod OneOutcome
 pub mod WrongEngines
 pub mod TypeNumbers
+pub mod StackDepth

@@ -7,7 +7,7 @@ impl StateNo {
     pub const DEEPEST: u8 = 8;
 
     // The root and the levels below it.
-    pub const LEVELS: u8 = 9;
+    pub const LEVELS: u8 = StateNo::DEEPEST + 1;
 }
 
 pub struct JunctionNo(pub u8);

@@ -5,7 +5,8 @@ use Prim.Native.Nat.{_-_}
 use borrow.Author.Needs.{needs}
 use lib.ListN.{take, drop}
 use Rattle.rules.specs.Lists.{first}
-use Rattle.moves.proofs.Lowest.{overAll, found, found-later, found-none}
+use Rattle.moves.proofs.Follows.{first-none, first-here, first-later}
+use Rattle.moves.proofs.Lowest.{overAll, common-of, next-above, none-above}
 use Rattle.moves.proofs.arena.common.Statement.{statement}
 use Rattle.moves.proofs.arena.common.Tie as tie
 
@@ -36,13 +37,10 @@ over-junctions-requires c κs = search needs
 
 returns : tie.Need-returns Inv-loop μ-loop
 returns c =
-    let l = c .before .before .before .before .before .loop in
-    let a = c .before .before .before .before .before .before .before .before .before .before .before .args in
     let r = c .before .before .before .before .before .before .before .line in
-    found (a .chart .now) (a .source .0) (a .target .0) (a .path .now) (r .last .1 .1 .0) (r .result) (l .i) (search needs)
-    (r .ensures .1) (l .inv) (c .before .before .before .before .loop-test .taken)
-    (rw (sym (c .before .before .before .over .ensures) ∙ c .before .before .if1 .taken)
-    (sym (c .before .over-junctions .ensures) ∙ c .if2 .taken))
+    first-here _ (common-of (c .before .before .before .before .before .before .before .before .before .before .before .args .chart .now) _ _ _ (r .ensures .1) ∙ c .before .before .before .before .before .loop .inv)
+    (next-above _ (r .result) _ (search needs) (c .before .before .before .before .loop-test .taken))
+    (rw (sym (c .before .before .before .over .ensures) ∙ c .before .before .if1 .taken) (sym (c .before .over-junctions .ensures) ∙ c .if2 .taken))
 
 add-i : tie.Need-add-i Inv-loop μ-loop
 add-i c = search needs
@@ -52,22 +50,15 @@ loop-less c = search needs
 
 loop-again : tie.Need-loop-again Inv-loop μ-loop
 loop-again c =
-    let l = c .before .before .before .loop in
-    let a = c .before .before .before .before .before .before .before .before .before .args in
-    let r = c .before .before .before .before .before .line in
-    found-later (a .chart .now) (a .source .0) (a .target .0) (a .path .now) (r .last .1 .1 .0) (r .result) (l .i)
-    (search needs)
-    (r .ensures .1) (l .inv) (c .before .before .loop-test .taken)
+    first-later _ (c .before .before .before .loop .inv) (next-above _ (c .before .before .before .before .before .line .result) _ (search needs) (c .before .before .loop-test .taken))
     (⊎-elim (λ w. rw (sym (c .before .over .ensures) ∙ w .0 .taken) (sym (w .1 .ensures) ∙ w .2 .left))
     (λ w. rw (sym (c .before .over .ensures) ∙ w .left)) (c .if1 .came))
 
 returns-2 : tie.Need-returns-2 Inv-loop μ-loop
 returns-2 c =
-    let l = c .before .loop in
-    let a = c .before .before .before .before .before .before .before .args in
     let r = c .before .before .before .line in
-    found-none (a .chart .now) (a .source .0) (a .target .0) (a .path .now) (r .last .1 .1 .0) (r .result) (l .i) (search needs)
-    (r .ensures .1) (l .inv) (c .loop-test .left)
+    first-none _ (common-of (c .before .before .before .before .before .before .before .args .chart .now) _ _ _ (r .ensures .1) ∙ c .before .loop .inv)
+    (none-above _ (r .result) _ (search needs) (c .loop-test .left))
 
 pub common-spec : {M : Type 1} → statement M
 common-spec =

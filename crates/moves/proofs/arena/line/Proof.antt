@@ -38,7 +38,7 @@ returns c =
     let l = c .before .before .before .loop in (
       omega arith,
       root-written (c .before .before .before .before .before .before .args .chart .now) (l .at .0) deepest (l .n)
-          (l .places) (omega arith) (l .inv .2) (c .before .before .loop-test .taken) (c .if1 .taken),
+          (l .places) (omega arith) (l .inv .2) (c .if1 .taken),
     )
 
 parent-requires : tie.Need-parent-requires Inv-loop μ-loop

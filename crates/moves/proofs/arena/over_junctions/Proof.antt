@@ -3,12 +3,13 @@ use mathlib.Core.Path.{_≡_, sym, _∙_}
 use Prim.Native.Nat.{_-_}
 use borrow.Author.Needs.{needs}
 use borrow.Author.Tests.{not-true, not-false}
-use lib.ListN.{drop}
+use lib.ListN.{drop, drop-of-length-le}
 use Rattle.rules.specs.Lists.{every}
 use Rattle.rules.specs.Chart.{over}
 use Rattle.rules.specs.Fire.{junctionParents}
 use Rattle.moves.specs.Steps.{overEnd}
-use Rattle.moves.proofs.Lowest.{every-end, one-fails, one-passes, none-left}
+use Rattle.moves.proofs.Follows.{next-at, every-done, every-fails, every-passes}
+use Rattle.moves.proofs.Lowest.{end-by-end}
 use Rattle.moves.proofs.arena.over_junctions.Statement.{statement}
 use Rattle.moves.proofs.arena.over_junctions.Tie as tie
 
@@ -20,9 +21,7 @@ abbrev μ-loop : tie.MeasureT-loop
 μ-loop chart h a path i₀ i-end i = i-end - i
 
 loop-holds : tie.Need-loop-holds Inv-loop μ-loop
-loop-holds c =
-    let a = c .before .before .args in
-    every-end (a .chart .now) (a .a .0) (a .path .now)
+loop-holds c = end-by-end _ _ (c .before .before .args .path .now)
 
 mul-t8 : tie.Need-mul-t8 Inv-loop μ-loop
 mul-t8 c = search needs
@@ -35,9 +34,7 @@ over-end-requires c κs = search needs
 
 returns : tie.Need-returns Inv-loop μ-loop
 returns c =
-    let a = c .before .before .before .before .before .before .before .args in
-    let l = c .before .before .before .before .loop in
-    one-fails (overEnd (a .chart .now) (a .a .0)) (a .path .now) (l .i) (l .inv) (c .before .before .before .loop-test .taken)
+    every-fails _ (c .before .before .before .before .loop .inv) (next-at (c .before .before .before .before .before .before .before .args .path .now) (c .before .before .before .before .loop .i) (c .before .before .before .loop-test .taken))
     (sym (c .before .over-end .ensures) ∙ not-true _ (c .if1 .taken))
 
 add-i : tie.Need-add-i Inv-loop μ-loop
@@ -48,16 +45,11 @@ loop-less c = search needs
 
 loop-again : tie.Need-loop-again Inv-loop μ-loop
 loop-again c =
-    let a = c .before .before .before .before .before .before .before .args in
-    let l = c .before .before .before .before .loop in
-    one-passes (overEnd (a .chart .now) (a .a .0)) (a .path .now) (l .i) (l .inv) (c .before .before .before .loop-test .taken)
+    every-passes _ (c .before .before .before .before .loop .inv) (next-at (c .before .before .before .before .before .before .before .args .path .now) (c .before .before .before .before .loop .i) (c .before .before .before .loop-test .taken))
     (sym (c .before .over-end .ensures) ∙ not-false _ (c .if1 .left))
 
 returns-2 : tie.Need-returns-2 Inv-loop μ-loop
-returns-2 c =
-    let a = c .before .before .before .before .args in
-    let l = c .before .loop in
-    none-left (overEnd (a .chart .now) (a .a .0)) (a .path .now) (l .i) (l .inv) (c .loop-test .left)
+returns-2 c = every-done _ (c .before .loop .inv) (drop-of-length-le (c .before .before .before .before .args .path .now) (c .loop-test .left))
 
 pub over-junctions-spec : {M : Type 1} → statement M
 over-junctions-spec =

@@ -1,14 +1,15 @@
 -- `entering::enter` and `entering::enter_children` meet their contracts. The loop's invariant: what is to do for the children
 -- from the start is what is to do for those from here on. The measures: the levels left, twice, and how many states are left.
 -- Assumes nothing.
-use mathlib.Core.Path.{refl, sym, _∙_}
+use mathlib.Core.Path.{sym, _∙_}
 use mathlib.Core.Logic.{⊎-elim}
 use Prim.Native.Nat.{ℕ, _<_, _+_, _*_, _-_}
 use borrow.Author.Needs.{needs}
+use Rattle.rules.specs.Chart.{children}
+use Rattle.rules.specs.Doing.{done, give, _>>_}
 use Rattle.rules.specs.Fire as rules
-use Rattle.doing.specs.Held.{nowOf}
-use Rattle.moves.proofs.Follows.{Turn, turn-done, turn-pass, turn-refused, turn-went}
-use Rattle.moves.proofs.Enters.{among, none-left, a-child, no-child, enter-none, enter-refused, enter-went, enter-chosen, enter-among}
+use Rattle.moves.proofs.Follows.{refused-ends, went-next, Turn, turn-start, turn-done, turn-pass, turn-refused, turn-went}
+use Rattle.moves.proofs.Enters.{childrenFrom, all-from, none-from, a-child, no-child, enter-some, enter-chosen, enter-each}
 use borrow.Fn.Kinds.{In}
 use borrow.Fn.PlainCycle.{Measures, is, falls, and}
 use Rattle.moves.proofs.entering.enter.Reads as enter
@@ -59,9 +60,8 @@ abbrev enter-children-calls : ℕ → enter-children-lts.Claims
 enter-children-calls t = (is-one-of-reads.Asked, is-one-of-reads.Learnt, chosen-reads.Asked, chosen-reads.Learnt, enter-below t, enter.Post, parent-reads.Asked, parent-reads.Learnt)
 
 enter-returns : (t : ℕ) → enter-lts.Need-returns (enter-calls t) (enter-at t) enter.Post
-enter-returns t c =
-    let a = c .before .before .before .before .args in
-    enter-none (a .chart .now) (a .depth) (a .target .0) (a .s .0) (nowOf (a .image .now) (a .trace .now) (a .counts)) (c .if1 .taken)
+unfolding rules.enter done give
+enter-returns t c = rw (c .if1 .taken)
 
 enter-arrive-requires : (t : ℕ) → enter-lts.Need-arrive-requires (enter-calls t) (enter-at t) enter.Post
 enter-arrive-requires t c κs = search needs
@@ -79,10 +79,8 @@ enter-same-length-2 : (t : ℕ) → enter-lts.Need-same-length-2 (enter-calls t)
 enter-same-length-2 t c = search needs
 
 enter-returns-2 : (t : ℕ) → enter-lts.Need-returns-2 (enter-calls t) (enter-at t) enter.Post
-enter-returns-2 t c =
-    let a = c .before .before .before .before .before .before .before .before .before .before .before .before .before .args in
-    enter-refused (a .chart .now) (a .depth) (a .target .0) (a .s .0) (nowOf (a .image .now) (a .trace .now) (a .counts))
-    (c .before .before .before .before .before .before .before .before .before .if1 .left) _ _ (c .before .before .before .before .before .before .arrive .ensures) _ (c .enum-told .given .1)
+unfolding _>>_
+enter-returns-2 t c = rw (enter-some _ _ _ _ _ (c .before .before .before .before .before .before .before .before .before .if1 .left)) (refused-ends _ _ _ (c .before .before .before .before .before .before .arrive .ensures) (c .enum-told .given .1))
 
 enter-sub-enter-children : (t : ℕ) → enter-lts.Need-sub-enter-children (enter-calls t) (enter-at t) enter.Post
 enter-sub-enter-children t c = search needs
@@ -97,18 +95,14 @@ enter-same-length-4 : (t : ℕ) → enter-lts.Need-same-length-4 (enter-calls t)
 enter-same-length-4 t c = search needs
 
 enter-returns-3 : (t : ℕ) → enter-lts.Need-returns-3 (enter-calls t) (enter-at t) enter.Post
+unfolding _>>_
 enter-returns-3 t c =
-    let a = c .before .before .before .before .before .before .before .before .before .before .before .before .before .before .before .before .before .before .before .before .before .args in
-    enter-went (a .chart .now) (a .depth) (a .target .0) (a .s .0) (nowOf (a .image .now) (a .trace .now) (a .counts))
-    (c .before .before .before .before .before .before .before .before .before .before .before .before .before .before .before .before .before .if1 .left) _ _
-    (c .before .before .before .before .before .before .before .before .before .before .before .before .before .before .arrive .ensures) _
-    (c .before .before .before .before .before .before .before .before .arrived .given .1)
-    (c .before .before .before .before .enter-children .ensures)
+    rw (enter-some _ _ _ _ _ (c .before .before .before .before .before .before .before .before .before .before .before .before .before .before .before .before .before .if1 .left)) (went-next _ _ _ (c .before .before .before .before .before .before .before .before .before .before .before .before .before .before .arrive .ensures) (c .before .before .before .before .before .before .before .before .arrived .given .1) (c .before .before .before .before .enter-children .ensures))
 
 abbrev enter-children-Inv-loop : enter-children-lts.InvT-loop
 enter-children-Inv-loop chart h image₀ trace₀ depth target s left₀ k₀ image trace left k =
-    Turn (rules.enter chart depth (target .0)) image₀ trace₀ left₀ (among chart (s .0) k₀ (h .states))
-    image trace left (among chart (s .0) k (h .states))
+    Turn (rules.enter chart depth (target .0)) image₀ trace₀ left₀ (children chart (s .0))
+    image trace left (childrenFrom chart (s .0) k (h .states))
 
 abbrev enter-children-μ-loop : enter-children-lts.MeasureT-loop
 enter-children-μ-loop chart h image₀ trace₀ depth target s left₀ k₀ image trace left k = h .states - k
@@ -130,15 +124,11 @@ enter-children-same-length-2 t c = search needs
 
 enter-children-returns : (t : ℕ) → enter-children-lts.Need-returns (enter-children-calls t) (enter-children-at t) enter-children.Post enter-children-Inv-loop enter-children-μ-loop
 enter-children-returns t c =
-    let a = c .before .before .before .before .before .before .before .before .before .before .before .before .before .before .args in
-    enter-chosen (a .chart .now) (rules.enter (a .chart .now) (a .depth) (a .target .0)) (a .target .0) (a .s .0)
-    (nowOf (a .image .now) (a .trace .now) (a .counts))
-    (sym (c .before .before .before .before .before .before .before .before .before .before .is-one-of .ensures)
-    ∙ c .before .before .before .before .before .before .before .before .before .if1 .taken)
-    (c .before .before .before .before .before .before .before .chosen .ensures) (c .before .before .before .before .enter .ensures)
+    enter-chosen _ _ _ _ _ (sym (c .before .before .before .before .before .before .before .before .before .before .is-one-of .ensures) ∙ c .before .before .before .before .before .before .before .before .before .if1 .taken) (c .before .before .before .before .before .before .before .chosen .ensures)
+    (c .before .before .before .before .enter .ensures)
 
 enter-children-loop-holds : (t : ℕ) → enter-children-lts.Need-loop-holds (enter-children-calls t) (enter-children-at t) enter-children.Post enter-children-Inv-loop enter-children-μ-loop
-enter-children-loop-holds t c = record { image = refl; trace = refl; same = refl }
+enter-children-loop-holds t c = turn-start (all-from _ _ _ (c .before .before .before .before .before .pre .1))
 
 enter-children-parent-requires : (t : ℕ) → enter-children-lts.Need-parent-requires (enter-children-calls t) (enter-children-at t) enter-children.Post enter-children-Inv-loop enter-children-μ-loop
 enter-children-parent-requires t c κs = search needs
@@ -160,18 +150,9 @@ enter-children-same-length-4 t c = search needs
 
 enter-children-returns-2 : (t : ℕ) → enter-children-lts.Need-returns-2 (enter-children-calls t) (enter-children-at t) enter-children.Post enter-children-Inv-loop enter-children-μ-loop
 enter-children-returns-2 t c =
-    let a = c .before .before .before .before .before .before .before .before .before .before .before .before .before .before .before .before .before .before .before .before .before .args in
-    let l = c .before .before .before .before .before .before .before .before .before .before .before .before .before .before .before .loop in
-    enter-among (a .chart .now) (rules.enter (a .chart .now) (a .depth) (a .target .0)) (a .target .0) (a .s .0)
-    (nowOf (a .image .now) (a .trace .now) (a .counts)) (a .h)
-    (c .before .before .before .before .before .before .before .before .before .before .before .before .before .before .before .before .before .before .before .before .before .pre .1)
-    (sym (c .before .before .before .before .before .before .before .before .before .before .before .before .before .before .before .before .before .is-one-of .ensures)
-    ∙ c .before .before .before .before .before .before .before .before .before .before .before .before .before .before .before .before .if1 .left)
-    (turn-refused (l .inv)
-    (a-child (a .chart .now) _ _ _ (c .before .before .before .before .before .before .before .before .before .before .before .before .before .if2 .taken)
-    (c .before .before .before .before .before .before .before .before .before .before .before .before .parent .ensures)
-    (c .before .before .before .before .before .before .before .before .before .if3 .taken)) _ _
-    (c .before .before .before .before .before .before .enter2 .ensures) _ (c .enum-told .given .1))
+    enter-each _ _ _ _ _ (sym (c .before .before .before .before .before .before .before .before .before .before .before .before .before .before .before .before .before .is-one-of .ensures) ∙ c .before .before .before .before .before .before .before .before .before .before .before .before .before .before .before .before .if1 .left)
+    (turn-refused (c .before .before .before .before .before .before .before .before .before .before .before .before .before .before .before .loop .inv) (a-child (c .before .before .before .before .before .before .before .before .before .before .before .before .before .before .before .before .before .before .before .before .before .args .chart .now) _ _ _ (c .before .before .before .before .before .before .before .before .before .before .before .before .before .if2 .taken) (c .before .before .before .before .before .before .before .before .before .before .before .before .parent .ensures) (c .before .before .before .before .before .before .before .before .before .if3 .taken)) _ _
+    (c .before .before .before .before .before .before .enter2 .ensures) (c .enum-told .given .1))
 
 enter-children-add-k : (t : ℕ) → enter-children-lts.Need-add-k (enter-children-calls t) (enter-children-at t) enter-children.Post enter-children-Inv-loop enter-children-μ-loop
 enter-children-add-k t c = search needs
@@ -181,14 +162,12 @@ enter-children-loop-less t c = search needs
 
 enter-children-loop-again : (t : ℕ) → enter-children-lts.Need-loop-again (enter-children-calls t) (enter-children-at t) enter-children.Post enter-children-Inv-loop enter-children-μ-loop
 enter-children-loop-again t c =
-    let a = c .before .before .before .before .before .before .before .before .before .before .before .before .args in
-    let l = c .before .before .before .before .before .before .loop in
-    let lt = c .before .before .before .before .if2 .taken in
-    let read = c .before .before .before .parent .ensures in
+    let chart = c .before .before .before .before .before .before .before .before .before .before .before .before .args .chart .now in
     ⊎-elim
-    (λ w. turn-went (l .inv) (a-child (a .chart .now) _ _ _ lt read (w .0 .taken)) _ _ (w .3 .ensures) _
+    (λ w. turn-went (c .before .before .before .before .before .before .loop .inv) (a-child chart _ _ _ (c .before .before .before .before .if2 .taken) (c .before .before .before .parent .ensures) (w .0 .taken)) _ _ (w .3 .ensures)
     (w .9 .given .1) (search needs) (search needs) (w .11) (w .12) (w .13))
-    (λ w. turn-pass (l .inv) (no-child (a .chart .now) _ _ _ lt read (w .0 .left)) (w .1) (w .2) (w .3))
+    (λ w. turn-pass (c .before .before .before .before .before .before .loop .inv) (rw (no-child chart _ _ _ (c .before .before .before .before .if2 .taken) (c .before .before .before .parent .ensures) (w .0 .left)))
+    (w .1) (w .2) (w .3))
     (c .if3 .came)
 
 enter-children-same-length-5 : (t : ℕ) → enter-children-lts.Need-same-length-5 (enter-children-calls t) (enter-children-at t) enter-children.Post enter-children-Inv-loop enter-children-μ-loop
@@ -199,12 +178,8 @@ enter-children-same-length-6 t c = search needs
 
 enter-children-returns-3 : (t : ℕ) → enter-children-lts.Need-returns-3 (enter-children-calls t) (enter-children-at t) enter-children.Post enter-children-Inv-loop enter-children-μ-loop
 enter-children-returns-3 t c =
-    let a = c .before .before .before .before .before .before .before .before .args in
-    let l = c .before .before .loop in
-    enter-among (a .chart .now) (rules.enter (a .chart .now) (a .depth) (a .target .0)) (a .target .0) (a .s .0)
-    (nowOf (a .image .now) (a .trace .now) (a .counts)) (a .h) (c .before .before .before .before .before .before .before .before .pre .1)
-    (sym (c .before .before .before .before .is-one-of .ensures) ∙ c .before .before .before .if1 .left)
-    (turn-done (l .inv) (none-left (a .chart .now) _ _ _ (c .if2 .left)))
+    enter-each _ _ _ _ _ (sym (c .before .before .before .before .is-one-of .ensures) ∙ c .before .before .before .if1 .left)
+    (turn-done (c .before .before .loop .inv) (none-from (c .before .before .before .before .before .before .before .before .args .chart .now) _ _ _ (c .if2 .left)))
 
 pub +enter+enter-children-spec : {M : Type 1} → statement M
 +enter+enter-children-spec = close μ-enter μ-enter-children (λ t. enter-lts.spec (enter-calls t)

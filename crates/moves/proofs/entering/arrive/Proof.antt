@@ -1,7 +1,8 @@
 -- `entering::arrive` meets its contract: paid, active, noted, then the entry action. Assumes nothing.
-use Rattle.rules.specs.Doing.{stateEntered}
-use Rattle.moves.proofs.Enters.{arrive-unpaid, arrive-unnoted, arrive-noted}
 use borrow.Author.Needs.{needs}
+use Rattle.rules.specs.Doing.{_>>_, change, stateEntered}
+use Rattle.moves.specs.Steps.{arriving}
+use Rattle.moves.proofs.Follows.{refused-ends, went-next}
 use Rattle.moves.proofs.entering.arrive.Statement.{statement}
 use Rattle.moves.proofs.entering.arrive.Tie as tie
 
@@ -15,9 +16,8 @@ enum-told : tie.Need-enum-told
 enum-told c = search needs
 
 returns : tie.Need-returns
-returns c =
-    let a = c .before .before .before .before .before .before .args in
-    arrive-unpaid (a .chart .now) (a .s .0) (a .image .now) (a .trace .now) (a .counts) (c .before .before .pay .ensures _ _) _ (c .enum-told .given .1)
+unfolding arriving _>>_
+returns c = refused-ends _ _ _ (c .before .before .pay .ensures _ _) (c .enum-told .given .1)
 
 activate-requires : tie.Need-activate-requires
 activate-requires c κs = search needs
@@ -41,10 +41,11 @@ same-length-2 : tie.Need-same-length-2
 same-length-2 c = search needs
 
 returns-2 : tie.Need-returns-2
+unfolding arriving _>>_ change
 returns-2 c =
     let a = c .before .before .before .before .before .before .before .before .before .before .before .before .before .before .before .before .before .before .args in
-    arrive-unnoted (a .chart .now) (a .s .0) (a .image .now) (a .trace .now) (a .counts) (c .before .before .before .before .before .before .before .before .before .before .before .before .before .before .pay .ensures _ _) _ (c .before .before .before .before .before .before .before .before .before .before .before .before .paid .given .1) (c .before .before .before .before .before .before .before .before .before .activate .ensures) _
-    (c .before .before .before .before .note .ensures _ stateEntered _ (c .before .before .before .before .before .entered .ensures)) _ (c .enum-told2 .given .1)
+    went-next _ _ _ (c .before .before .before .before .before .before .before .before .before .before .before .before .before .before .pay .ensures (a .image .now) (a .trace .now)) (c .before .before .before .before .before .before .before .before .before .before .before .before .paid .given .1)
+    (rw (← (c .before .before .before .before .before .before .before .before .before .activate .ensures)) (refused-ends _ _ _ (c .before .before .before .before .note .ensures _ stateEntered _ (c .before .before .before .before .before .entered .ensures)) (c .enum-told2 .given .1)))
 
 entry-requires : tie.Need-entry-requires
 entry-requires c κs = search needs
@@ -59,10 +60,13 @@ same-length-4 : tie.Need-same-length-4
 same-length-4 c = search needs
 
 returns-3 : tie.Need-returns-3
+unfolding arriving _>>_ change
 returns-3 c =
     let a = c .before .before .before .before .before .before .before .before .before .before .before .before .before .before .before .before .before .before .before .before .before .before .before .before .before .before .before .args in
-    arrive-noted (a .chart .now) (a .s .0) (a .image .now) (a .trace .now) (a .counts) (c .before .before .before .before .before .before .before .before .before .before .before .before .before .before .before .before .before .before .before .before .before .before .before .pay .ensures _ _) _ (c .before .before .before .before .before .before .before .before .before .before .before .before .before .before .before .before .before .before .before .before .before .paid .given .1) (c .before .before .before .before .before .before .before .before .before .before .before .before .before .before .before .before .before .before .activate .ensures) _
-    (c .before .before .before .before .before .before .before .before .before .before .before .before .before .note .ensures _ stateEntered _ (c .before .before .before .before .before .before .before .before .before .before .before .before .before .before .entered .ensures)) _ (c .before .before .before .before .before .before .before .before .before .noted .given .1) (rw (c .before .before .before .before .before .before .before .entry .ensures) at (c .before .before .before .before .perform .ensures))
+    went-next _ _ _ (c .before .before .before .before .before .before .before .before .before .before .before .before .before .before .before .before .before .before .before .before .before .before .before .pay .ensures (a .image .now) (a .trace .now)) (c .before .before .before .before .before .before .before .before .before .before .before .before .before .before .before .before .before .before .before .before .before .paid .given .1)
+    (rw (← (c .before .before .before .before .before .before .before .before .before .before .before .before .before .before .before .before .before .before .activate .ensures))
+    (went-next _ _ _ (c .before .before .before .before .before .before .before .before .before .before .before .before .before .note .ensures _ stateEntered _ (c .before .before .before .before .before .before .before .before .before .before .before .before .before .before .entered .ensures)) (c .before .before .before .before .before .before .before .before .before .noted .given .1)
+    (rw (c .before .before .before .before .before .before .before .entry .ensures) at (c .before .before .before .before .perform .ensures))))
 
 pub arrive-spec : {M : Type 1} → statement M
 arrive-spec =

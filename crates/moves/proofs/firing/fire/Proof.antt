@@ -1,7 +1,9 @@
 -- `firing::fire` meets its contract: three doings one after another, of which one that is refused ends all. Assumes nothing.
-use Rattle.doing.specs.Held.{nowOf}
-use Rattle.moves.proofs.Fires.{fire-unleft, fire-unacted, fire-acted}
+use mathlib.Core.Path.{sym}
 use borrow.Author.Needs.{needs}
+use Rattle.rules.specs.Doing.{_>>_}
+use Rattle.rules.specs.Fire.{fire}
+use Rattle.moves.proofs.Follows.{refused-ends, went-next}
 use Rattle.moves.proofs.firing.fire.Statement.{statement}
 use Rattle.moves.proofs.firing.fire.Tie as tie
 
@@ -24,12 +26,8 @@ same-length-2 : tie.Need-same-length-2
 same-length-2 c = search needs
 
 returns : tie.Need-returns
-returns c =
-    let a = c .before .before .before .before .before .before .before .before .before .before .before .before .before .before .args in
-    fire-unleft (a .chart .now) (a .source .0) (a .target .0) (a .path .now) (nowOf (a .image .now) (a .trace .now) (a .counts))
-    (c .before .before .before .before .before .before .before .before .before .arena .ensures) _ _
-    (c .before .before .before .before .before .before .leave-children .ensures) _
-    (c .enum-told .given .1)
+unfolding fire _>>_
+returns c = rw (sym (c .before .before .before .before .before .before .before .before .before .arena .ensures)) (refused-ends _ _ _ (c .before .before .before .before .before .before .leave-children .ensures) (c .enum-told .given .1))
 
 transit-path-requires : tie.Need-transit-path-requires
 transit-path-requires c κs = search needs
@@ -47,13 +45,11 @@ same-length-4 : tie.Need-same-length-4
 same-length-4 c = search needs
 
 returns-2 : tie.Need-returns-2
+unfolding fire _>>_
 returns-2 c =
-    let a = c .before .before .before .before .before .before .before .before .before .before .before .before .before .before .before .before .before .before .before .before .before .before .before .before .args in
-    fire-unacted (a .chart .now) (a .source .0) (a .target .0) (a .path .now) (nowOf (a .image .now) (a .trace .now) (a .counts))
-    (c .before .before .before .before .before .before .before .before .before .before .before .before .before .before .before .before .before .before .before .arena .ensures) _ _
-    (c .before .before .before .before .before .before .before .before .before .before .before .before .before .before .before .before .leave-children .ensures) _
-    (c .before .before .before .before .before .before .before .before .before .before .emptied .given .1) _ _
-    (c .before .before .before .before .before .before .transit-path .ensures) _ (c .enum-told2 .given .1)
+    rw (sym (c .before .before .before .before .before .before .before .before .before .before .before .before .before .before .before .before .before .before .before .arena .ensures))
+    (went-next _ _ _ (c .before .before .before .before .before .before .before .before .before .before .before .before .before .before .before .before .leave-children .ensures) (c .before .before .before .before .before .before .before .before .before .before .emptied .given .1)
+    (refused-ends _ _ _ (c .before .before .before .before .before .before .transit-path .ensures) (c .enum-told2 .given .1)))
 
 enter-children-requires : tie.Need-enter-children-requires
 enter-children-requires c κs = c .before .before .before .before .before .before .before .before .before .before .before .before .before .before .before .before .before .before .before .before .before .before .before .before .before .before .before .pre
@@ -65,14 +61,11 @@ same-length-6 : tie.Need-same-length-6
 same-length-6 c = search needs
 
 returns-3 : tie.Need-returns-3
+unfolding fire _>>_
 returns-3 c =
-    let a = c .before .before .before .before .before .before .before .before .before .before .before .before .before .before .before .before .before .before .before .before .before .before .before .before .before .before .before .before .before .before .before .before .args in
-    fire-acted (a .chart .now) (a .source .0) (a .target .0) (a .path .now) (nowOf (a .image .now) (a .trace .now) (a .counts))
-    (c .before .before .before .before .before .before .before .before .before .before .before .before .before .before .before .before .before .before .before .before .before .before .before .before .before .before .before .arena .ensures) _ _
-    (c .before .before .before .before .before .before .before .before .before .before .before .before .before .before .before .before .before .before .before .before .before .before .before .before .leave-children .ensures) _
-    (c .before .before .before .before .before .before .before .before .before .before .before .before .before .before .before .before .before .before .emptied .given .1) _ _
-    (c .before .before .before .before .before .before .before .before .before .before .before .before .before .before .transit-path .ensures) _
-    (c .before .before .before .before .before .before .before .before .acted .given .1) (c .before .before .before .before .enter-children .ensures)
+    rw (sym (c .before .before .before .before .before .before .before .before .before .before .before .before .before .before .before .before .before .before .before .before .before .before .before .before .before .before .before .arena .ensures))
+    (went-next _ _ _ (c .before .before .before .before .before .before .before .before .before .before .before .before .before .before .before .before .before .before .before .before .before .before .before .before .leave-children .ensures) (c .before .before .before .before .before .before .before .before .before .before .before .before .before .before .before .before .before .before .emptied .given .1)
+    (went-next _ _ _ (c .before .before .before .before .before .before .before .before .before .before .before .before .before .before .transit-path .ensures) (c .before .before .before .before .before .before .before .before .acted .given .1) (c .before .before .before .before .enter-children .ensures)))
 
 pub fire-spec : {M : Type 1} → statement M
 fire-spec =

@@ -1,8 +1,8 @@
 -- `firing::transit` meets its contract: the item, then the action. Assumes nothing.
-use Rattle.rules.specs.Doing.{transitionPerformed}
-use Rattle.doing.specs.Held.{nowOf}
-use Rattle.moves.proofs.Fires.{transit-unnoted, transit-noted}
 use borrow.Author.Needs.{needs}
+use Rattle.rules.specs.Doing.{_>>_, transitionPerformed}
+use Rattle.rules.specs.Fire.{transit}
+use Rattle.moves.proofs.Follows.{refused-ends, went-next}
 use Rattle.moves.proofs.firing.transit.Statement.{statement}
 use Rattle.moves.proofs.firing.transit.Tie as tie
 
@@ -22,10 +22,10 @@ same-length : tie.Need-same-length
 same-length c = search needs
 
 returns : tie.Need-returns
+unfolding transit _>>_
 returns c =
-    let a = c .before .before .before .before .before .before .before .before .before .before .args in
-    transit-unnoted (a .chart .now) (a .t .0) (nowOf (a .image .now) (a .trace .now) (a .counts)) _ _
-    (c .before .before .before .before .note .ensures _ transitionPerformed _ (c .before .before .before .before .before .transition .ensures)) _ (c .enum-told .given .1)
+    refused-ends _ _ _ (c .before .before .before .before .note .ensures _ transitionPerformed _ (c .before .before .before .before .before .transition .ensures))
+    (c .enum-told .given .1)
 
 transition-action-requires : tie.Need-transition-action-requires
 transition-action-requires c κs = search needs
@@ -40,10 +40,10 @@ same-length-3 : tie.Need-same-length-3
 same-length-3 c = search needs
 
 returns-2 : tie.Need-returns-2
+unfolding transit _>>_
 returns-2 c =
-    let a = c .before .before .before .before .before .before .before .before .before .before .before .before .before .before .before .before .before .before .before .args in
-    transit-noted (a .chart .now) (a .t .0) (nowOf (a .image .now) (a .trace .now) (a .counts)) _ _
-    (c .before .before .before .before .before .before .before .before .before .before .before .before .before .note .ensures _ transitionPerformed _ (c .before .before .before .before .before .before .before .before .before .before .before .before .before .before .transition .ensures)) _ (c .before .before .before .before .before .before .before .before .before .noted .given .1) (rw (c .before .before .before .before .before .before .before .transition-action .ensures, c .before .before .before .before .before .before .before .before .before .before .before .before .before .before .before .before .before .before .before .pre) at (c .before .before .before .before .perform .ensures))
+    went-next _ _ _ (c .before .before .before .before .before .before .before .before .before .before .before .before .before .note .ensures _ transitionPerformed _ (c .before .before .before .before .before .before .before .before .before .before .before .before .before .before .transition .ensures)) (c .before .before .before .before .before .before .before .before .before .noted .given .1)
+    (rw (c .before .before .before .before .before .before .before .transition-action .ensures, c .before .before .before .before .before .before .before .before .before .before .before .before .before .before .before .before .before .before .before .pre) at (c .before .before .before .before .perform .ensures))
 
 pub transit-spec : {M : Type 1} → statement M
 transit-spec =

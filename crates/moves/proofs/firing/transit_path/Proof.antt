@@ -5,8 +5,7 @@ use Prim.Native.Nat.{_-_}
 use borrow.Author.Needs.{needs}
 use lib.ListN.{drop, drop-of-length-le}
 use Rattle.rules.specs.Fire.{transit}
-use Rattle.moves.proofs.Follows.{Turn, turn-done, turn-refused, turn-went}
-use Rattle.moves.proofs.Fires.{next-segment}
+use Rattle.moves.proofs.Follows.{next-at, Turn, turn-start, turn-done, turn-refused, turn-went}
 use Rattle.moves.proofs.firing.transit_path.Statement.{statement}
 use Rattle.moves.proofs.firing.transit_path.Tie as tie
 
@@ -18,7 +17,7 @@ abbrev μ-loop : tie.MeasureT-loop
 μ-loop chart h image₀ trace₀ path left₀ i₀ i-end image trace left i = i-end - i
 
 loop-holds : tie.Need-loop-holds Inv-loop μ-loop
-loop-holds c = record { image = refl; trace = refl; same = refl }
+loop-holds c = turn-start refl
 
 mul-t17 : tie.Need-mul-t17 Inv-loop μ-loop
 mul-t17 c = search needs
@@ -43,11 +42,7 @@ same-length-2 c = search needs
 
 returns : tie.Need-returns Inv-loop μ-loop
 returns c =
-    let a = c .before .before .before .before .before .before .before .before .before .before .before .before .before .before .before .before .args in
-    let l = c .before .before .before .before .before .before .before .before .before .before .before .loop in
-    let lt = c .before .before .before .before .before .before .before .before .before .before .loop-test .taken in
-    turn-refused (l .inv) (next-segment (a .path .now) (l .i) lt) _ _
-    (c .before .before .before .before .before .before .transit .ensures) _ (c .enum-told .given .1)
+    turn-refused (c .before .before .before .before .before .before .before .before .before .before .before .loop .inv) (next-at (c .before .before .before .before .before .before .before .before .before .before .before .before .before .before .before .before .args .path .now) (c .before .before .before .before .before .before .before .before .before .before .before .loop .i) (c .before .before .before .before .before .before .before .before .before .before .loop-test .taken)) _ _ (c .before .before .before .before .before .before .transit .ensures) (c .enum-told .given .1)
 
 add-i : tie.Need-add-i Inv-loop μ-loop
 add-i c = search needs
@@ -57,11 +52,8 @@ loop-less c = search needs
 
 loop-again : tie.Need-loop-again Inv-loop μ-loop
 loop-again c =
-    let a = c .before .before .before .before .before .before .before .before .before .before .before .before .before .before .before .before .before .args in
-    let l = c .before .before .before .before .before .before .before .before .before .before .before .before .loop in
-    let lt = c .before .before .before .before .before .before .before .before .before .before .before .loop-test .taken in
-    turn-went (l .inv) (next-segment (a .path .now) (l .i) lt) _ _
-    (c .before .before .before .before .before .before .before .transit .ensures) _ (c .before .done .given .1) (search needs) (search needs) refl refl refl
+    turn-went (c .before .before .before .before .before .before .before .before .before .before .before .before .loop .inv) (next-at (c .before .before .before .before .before .before .before .before .before .before .before .before .before .before .before .before .before .args .path .now) (c .before .before .before .before .before .before .before .before .before .before .before .before .loop .i) (c .before .before .before .before .before .before .before .before .before .before .before .loop-test .taken)) _ _ (c .before .before .before .before .before .before .before .transit .ensures) (c .before .done .given .1)
+    (search needs) (search needs) refl refl refl
 
 same-length-3 : tie.Need-same-length-3 Inv-loop μ-loop
 same-length-3 c = search needs

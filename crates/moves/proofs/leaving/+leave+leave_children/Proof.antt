@@ -1,13 +1,14 @@
 -- A state is left by one of four ways out. Of its children, the loop's invariant: what is still to leave from here is what was
 -- to leave at the start. The measure goes down with the depth, and from the children to a child. Assumes nothing.
-use mathlib.Core.Path.{_≡_, refl, sym, _∙_}
+use mathlib.Core.Path.{refl, sym, _∙_}
 use Prim.Native.Nat.{ℕ, _<_, _+_, _*_}
 use borrow.Author.Needs.{needs}
-use lib.ListN.{length}
+use Rattle.rules.specs.Chart.{childrenDown}
+use Rattle.rules.specs.Doing.{done, give, _>>_, whenActive}
 use Rattle.rules.specs.Fire.{leaveEach, leave as leave-by}
-use Rattle.doing.specs.Held.{nowOf}
-use Rattle.doing.proofs.Laws.{went-on, was-refused}
-use Rattle.moves.proofs.Leaves.{left-none, left-unpaid, left-stuck, left-emptied, leftBelow, all-left, below-end, below-skip, below-went, below-refused}
+use Rattle.rules.proofs.Laws.{both}
+use Rattle.moves.proofs.Follows.{refused-ends, went-next, Turn, turn-start, turn-done, turn-pass, turn-refused, turn-went}
+use Rattle.moves.proofs.Leaves.{leave-some, when-active, childrenBelow, all-below, none-below, a-child, passed-over}
 use borrow.Fn.Kinds.{In}
 use borrow.Fn.PlainCycle.{Measures, is, falls, and}
 use Rattle.moves.proofs.leaving.leave.Reads as leave
@@ -57,9 +58,8 @@ abbrev leave-children-calls : ℕ → leave-children-lts.Claims
 leave-children-calls t = (is-active-child-reads.Asked, is-active-child-reads.Learnt, leave-below t, leave.Post)
 
 leave-returns : (t : ℕ) → leave-lts.Need-returns (leave-calls t) (leave-at t) leave.Post
-leave-returns t c =
-    let a = c .before .before .before .before .args in
-    left-none (a .chart .now) (a .depth) (a .s .0) (nowOf (a .image .now) (a .trace .now) (a .counts)) (c .if1 .taken)
+unfolding leave-by done give
+leave-returns t c = rw (c .if1 .taken)
 
 leave-pay-requires : (t : ℕ) → leave-lts.Need-pay-requires (leave-calls t) (leave-at t) leave.Post
 leave-pay-requires t c κs = search needs
@@ -71,14 +71,8 @@ leave-enum-told : (t : ℕ) → leave-lts.Need-enum-told (leave-calls t) (leave-
 leave-enum-told t c = search needs
 
 leave-returns-2 : (t : ℕ) → leave-lts.Need-returns-2 (leave-calls t) (leave-at t) leave.Post
-leave-returns-2 t c =
-    let a = c .before .before .before .before .before .before .before .args in
-    let told = c .enum-told .given in
-    rw (told .1)
-    (left-unpaid (a .chart .now) (a .depth) (a .s .0) (nowOf (a .image .now) (a .trace .now) (a .counts))
-    (c .before .before .before .if1 .left)
-    (was-refused (a .image .now) (a .trace .now) (told .0 .0) (c .before .before .pay .ensures (a .image .now) (a .trace .now))
-    (told .1)))
+unfolding _>>_
+leave-returns-2 t c = rw (leave-some _ _ _ _ (c .before .before .before .if1 .left)) (refused-ends _ _ _ (c .before .before .pay .ensures _ _) (c .enum-told .given .1))
 
 leave-sub-leave-children : (t : ℕ) → leave-lts.Need-sub-leave-children (leave-calls t) (leave-at t) leave.Post
 leave-sub-leave-children t c = search needs
@@ -99,18 +93,12 @@ leave-same-length-2 : (t : ℕ) → leave-lts.Need-same-length-2 (leave-calls t)
 leave-same-length-2 t c = search needs
 
 leave-returns-3 : (t : ℕ) → leave-lts.Need-returns-3 (leave-calls t) (leave-at t) leave.Post
+unfolding _>>_
 leave-returns-3 t c =
-    let emptied = c .before .before .before .before .before .before .leave-children in
     let a = c .before .before .before .before .before .before .before .before .before .before .before .before .before .before .before .before .before .args in
-    let left = c .before .before .before .before .before .before .before .before .before .before .paid .given in
-    let told = c .enum-told2 .given in
-    rw (told .1)
-    (left-stuck (a .chart .now) (a .depth) (a .s .0) (nowOf (a .image .now) (a .trace .now) (a .counts))
-    (c .before .before .before .before .before .before .before .before .before .before .before .before .before .if1 .left)
-    (went-on (a .image .now) (a .trace .now) (left .0 .0)
-    (c .before .before .before .before .before .before .before .before .before .before .before .before .pay .ensures
-    (a .image .now) (a .trace .now)) (left .1))
-    (was-refused (emptied .last .1 .1 .0) (emptied .last .1 .1 .1 .0) (told .0 .0) (emptied .ensures) (told .1)))
+    rw (leave-some _ _ _ _ (c .before .before .before .before .before .before .before .before .before .before .before .before .before .if1 .left))
+    (went-next _ _ _ (c .before .before .before .before .before .before .before .before .before .before .before .before .pay .ensures (a .image .now) (a .trace .now)) (c .before .before .before .before .before .before .before .before .before .before .paid .given .1)
+    (refused-ends _ _ _ (c .before .before .before .before .before .before .leave-children .ensures) (c .enum-told2 .given .1)))
 
 leave-depart-requires : (t : ℕ) → leave-lts.Need-depart-requires (leave-calls t) (leave-at t) leave.Post
 leave-depart-requires t c κs = search needs
@@ -122,29 +110,23 @@ leave-same-length-4 : (t : ℕ) → leave-lts.Need-same-length-4 (leave-calls t)
 leave-same-length-4 t c = search needs
 
 leave-returns-4 : (t : ℕ) → leave-lts.Need-returns-4 (leave-calls t) (leave-at t) leave.Post
+unfolding _>>_
 leave-returns-4 t c =
-    let emptied = c .before .before .before .before .before .before .before .before .before .before .before .before .before .before .leave-children in
     let a = c .before .before .before .before .before .before .before .before .before .before .before .before .before .before .before .before .before .before .before .before .before .before .before .before .before .args in
-    let left = c .before .before .before .before .before .before .before .before .before .before .before .before .before .before .before .before .before .before .paid .given in
-    let after = c .before .before .before .before .before .before .before .before .emptied .given in
-    c .before .before .before .before .depart .ensures
-    ∙ left-emptied (a .chart .now) (a .depth) (a .s .0) (nowOf (a .image .now) (a .trace .now) (a .counts))
-    (c .before .before .before .before .before .before .before .before .before .before .before .before .before .before .before .before .before .before .before .before .before .if1 .left)
-    (went-on (a .image .now) (a .trace .now) (left .0 .0)
-    (c .before .before .before .before .before .before .before .before .before .before .before .before .before .before .before .before .before .before .before .before .pay .ensures (a .image .now) (a .trace .now)) (left .1))
-    (went-on (emptied .last .1 .1 .0) (emptied .last .1 .1 .1 .0) (after .0 .0) (emptied .ensures) (after .1))
+    rw (leave-some _ _ _ _ (c .before .before .before .before .before .before .before .before .before .before .before .before .before .before .before .before .before .before .before .before .before .if1 .left))
+    (went-next _ _ _ (c .before .before .before .before .before .before .before .before .before .before .before .before .before .before .before .before .before .before .before .before .pay .ensures (a .image .now) (a .trace .now)) (c .before .before .before .before .before .before .before .before .before .before .before .before .before .before .before .before .before .before .paid .given .1)
+    (went-next _ _ _ (c .before .before .before .before .before .before .before .before .before .before .before .before .before .before .leave-children .ensures) (c .before .before .before .before .before .before .before .before .emptied .given .1) (c .before .before .before .before .depart .ensures)))
 
 abbrev leave-children-Inv-loop : leave-children-lts.InvT-loop
 leave-children-Inv-loop chart h image₀ trace₀ depth s left₀ k₀ image trace left k =
-    (length image ≡ length image₀) × (length trace ≡ length trace₀)
-    × (leaveEach chart (leave-by chart depth) (s .0) (nowOf image₀ trace₀ left₀)
-    ≡ leftBelow chart (leave-by chart depth) (s .0) k (nowOf image trace left))
+    Turn (λ i. whenActive i (leave-by chart depth i)) image₀ trace₀ left₀ (childrenDown chart (s .0))
+    image trace left (childrenBelow chart (s .0) k)
 
 abbrev leave-children-μ-loop : leave-children-lts.MeasureT-loop
 leave-children-μ-loop chart h image₀ trace₀ depth s left₀ k₀ image trace left k = k
 
 leave-children-loop-holds : (t : ℕ) → leave-children-lts.Need-loop-holds (leave-children-calls t) (leave-children-at t) leave-children.Post leave-children-Inv-loop leave-children-μ-loop
-leave-children-loop-holds t c = (refl, refl, all-left _ _ _ _ (c .before .before .before .pre .1))
+leave-children-loop-holds t c = turn-start (all-below _ _ _ (c .before .before .before .pre .1))
 
 leave-children-sub-k : (t : ℕ) → leave-children-lts.Need-sub-k (leave-children-calls t) (leave-children-at t) leave-children.Post leave-children-Inv-loop leave-children-μ-loop
 leave-children-sub-k t c = search needs
@@ -168,55 +150,30 @@ leave-children-same-length-2 : (t : ℕ) → leave-children-lts.Need-same-length
 leave-children-same-length-2 t c = search needs
 
 leave-children-returns : (t : ℕ) → leave-children-lts.Need-returns (leave-children-calls t) (leave-children-at t) leave-children.Post leave-children-Inv-loop leave-children-μ-loop
+unfolding leaveEach
 leave-children-returns t c =
-    let gone = c .before .before .before .before .before .before .leave in
-    let a = c .before .before .before .before .before .before .before .before .before .before .before .before .before .before .before .before .before .args in
-    let l = c .before .before .before .before .before .before .before .before .before .before .before .before .before .loop in
-    let told = c .enum-told .given in
-    rw (told .1)
-    (sym
-    (l .inv .2
-    ∙ below-refused (a .chart .now) (leave-by (a .chart .now) (a .depth)) (a .s .0) (l .k)
-    (nowOf (l .image) (l .trace) (l .left))
-    (c .before .before .before .before .before .before .before .before .before .before .before .before .loop-test .taken)
-    (sym (c .before .before .before .before .before .before .before .before .before .before .is-active-child .ensures)
-    ∙ c .before .before .before .before .before .before .before .before .before .if1 .taken)
-    (was-refused (gone .last .1 .1 .0) (gone .last .1 .1 .1 .0) (told .0 .0) (gone .ensures) (told .1))))
+    let both-pass = both _ _ (sym (c .before .before .before .before .before .before .before .before .before .before .is-active-child .ensures) ∙ c .before .before .before .before .before .before .before .before .before .if1 .taken) in
+    turn-refused (c .before .before .before .before .before .before .before .before .before .before .before .before .before .loop .inv) (a-child (c .before .before .before .before .before .before .before .before .before .before .before .before .before .before .before .before .before .args .chart .now) _ _ (c .before .before .before .before .before .before .before .before .before .before .before .before .loop-test .taken) (both-pass .0)) _ _
+    (when-active _ _ _ (both-pass .1) (c .before .before .before .before .before .before .leave .ensures)) (c .enum-told .given .1)
 
 leave-children-loop-less : (t : ℕ) → leave-children-lts.Need-loop-less (leave-children-calls t) (leave-children-at t) leave-children.Post leave-children-Inv-loop leave-children-μ-loop
 leave-children-loop-less t c = search needs
 
 leave-children-loop-again : (t : ℕ) → leave-children-lts.Need-loop-again (leave-children-calls t) (leave-children-at t) leave-children.Post leave-children-Inv-loop leave-children-μ-loop
 leave-children-loop-again t c =
-    let gone = c .before .before .before .before .before .before .before .leave in
-    let a = c .before .before .before .before .before .before .before .before .before .before .before .before .before .before .before .before .before .before .args in
-    let l = c .before .before .before .before .before .before .before .before .before .before .before .before .before .before .loop in
-    let after = c .before .gone .given in (
-      search needs,
-      search needs,
-      l .inv .2
-          ∙ below-went (a .chart .now) (leave-by (a .chart .now) (a .depth)) (a .s .0) (l .k)
-          (nowOf (l .image) (l .trace) (l .left))
-          (c .before .before .before .before .before .before .before .before .before .before .before .before .before .loop-test .taken)
-          (sym (c .before .before .before .before .before .before .before .before .before .before .before .is-active-child .ensures)
-          ∙ c .before .before .before .before .before .before .before .before .before .before .if1 .taken)
-          (went-on (gone .last .1 .1 .0) (gone .last .1 .1 .1 .0) (after .0 .0) (gone .ensures) (after .1)),
-    )
+    let both-pass = both _ _ (sym (c .before .before .before .before .before .before .before .before .before .before .before .is-active-child .ensures) ∙ c .before .before .before .before .before .before .before .before .before .before .if1 .taken) in
+    turn-went (c .before .before .before .before .before .before .before .before .before .before .before .before .before .before .loop .inv) (a-child (c .before .before .before .before .before .before .before .before .before .before .before .before .before .before .before .before .before .before .args .chart .now) _ _ (c .before .before .before .before .before .before .before .before .before .before .before .before .before .loop-test .taken) (both-pass .0)) _ _
+    (when-active _ _ _ (both-pass .1) (c .before .before .before .before .before .before .before .leave .ensures)) (c .before .gone .given .1) (search needs) (search needs) refl refl refl
 
 leave-children-loop-less-2 : (t : ℕ) → leave-children-lts.Need-loop-less-2 (leave-children-calls t) (leave-children-at t) leave-children.Post leave-children-Inv-loop leave-children-μ-loop
 leave-children-loop-less-2 t c = search needs
 
 leave-children-loop-again-2 : (t : ℕ) → leave-children-lts.Need-loop-again-2 (leave-children-calls t) (leave-children-at t) leave-children.Post leave-children-Inv-loop leave-children-μ-loop
 leave-children-loop-again-2 t c =
-    let a = c .before .before .before .before .before .before .before .before .args in
-    let l = c .before .before .before .before .loop in (
-      l .inv .0,
-      l .inv .1,
-      l .inv .2
-          ∙ below-skip (a .chart .now) (leave-by (a .chart .now) (a .depth)) (a .s .0) (l .k)
-          (nowOf (l .image) (l .trace) (l .left))
-          (c .before .before .before .loop-test .taken) (sym (c .before .is-active-child .ensures) ∙ c .if1 .left),
-    )
+    turn-pass (c .before .before .before .before .loop .inv)
+    (passed-over (c .before .before .before .before .before .before .before .before .args .chart .now) _ _ (c .before .before .before .loop-test .taken) _ _ _ refl
+    (sym (c .before .is-active-child .ensures) ∙ c .if1 .left))
+    refl refl refl
 
 leave-children-same-length-3 : (t : ℕ) → leave-children-lts.Need-same-length-3 (leave-children-calls t) (leave-children-at t) leave-children.Post leave-children-Inv-loop leave-children-μ-loop
 leave-children-same-length-3 t c = search needs
@@ -225,13 +182,8 @@ leave-children-same-length-4 : (t : ℕ) → leave-children-lts.Need-same-length
 leave-children-same-length-4 t c = search needs
 
 leave-children-returns-2 : (t : ℕ) → leave-children-lts.Need-returns-2 (leave-children-calls t) (leave-children-at t) leave-children.Post leave-children-Inv-loop leave-children-μ-loop
-leave-children-returns-2 t c =
-    let a = c .before .before .before .before .before .args in
-    let l = c .before .loop in
-    sym
-    (l .inv .2
-    ∙ below-end (a .chart .now) (leave-by (a .chart .now) (a .depth)) (a .s .0) (l .k) (nowOf (l .image) (l .trace) (l .left))
-    (c .loop-test .left))
+unfolding leaveEach
+leave-children-returns-2 t c = turn-done (c .before .loop .inv) (none-below (c .before .before .before .before .before .args .chart .now) _ _ (c .loop-test .left))
 
 pub +leave+leave-children-spec : {M : Type 1} → statement M
 +leave+leave-children-spec = close μ-leave μ-leave-children (λ t. leave-lts.spec (leave-calls t)

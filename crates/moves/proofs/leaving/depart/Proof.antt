@@ -1,8 +1,9 @@
 -- `leaving::depart` meets its contract: the exit action, then the image with the record and without the bit. Assumes nothing.
-use Rattle.rules.specs.Doing.{stateLeft}
-use Rattle.doing.specs.Held.{nowOf}
-use Rattle.moves.proofs.Leaves.{depart-unacted, depart-acted}
 use borrow.Author.Needs.{needs}
+use Rattle.rules.specs.Doing.{_>>_, change, stateLeft}
+use Rattle.moves.specs.Steps.{departing}
+use Rattle.moves.proofs.Follows.{refused-ends, went-next}
+use Rattle.moves.proofs.Leaves.{noted-left}
 use Rattle.moves.proofs.leaving.depart.Statement.{statement}
 use Rattle.moves.proofs.leaving.depart.Tie as tie
 
@@ -25,9 +26,8 @@ same-length-2 : tie.Need-same-length-2
 same-length-2 c = search needs
 
 returns : tie.Need-returns
-returns c =
-    let a = c .before .before .before .before .before .before .before .before .before .before .before .before .before .args in
-    depart-unacted (a .chart .now) (a .s .0) (nowOf (a .image .now) (a .trace .now) (a .counts)) _ _ (rw (c .before .before .before .before .before .before .before .before .before .exit .ensures) at (c .before .before .before .before .before .before .perform .ensures)) _ (c .enum-told .given .1)
+unfolding departing _>>_
+returns c = refused-ends _ _ _ (rw (c .before .before .before .before .before .before .before .before .before .exit .ensures) at (c .before .before .before .before .before .before .perform .ensures)) (c .enum-told .given .1)
 
 remember-requires : tie.Need-remember-requires
 remember-requires c κs = search needs
@@ -48,10 +48,10 @@ same-length-4 : tie.Need-same-length-4
 same-length-4 c = search needs
 
 returns-2 : tie.Need-returns-2
+unfolding departing _>>_ change
 returns-2 c =
-    let a = c .before .before .before .before .before .before .before .before .before .before .before .before .before .before .before .before .before .before .before .before .before .before .before .before .before .before .before .args in
-    depart-acted (a .chart .now) (a .s .0) (nowOf (a .image .now) (a .trace .now) (a .counts)) _ _ (rw (c .before .before .before .before .before .before .before .before .before .before .before .before .before .before .before .before .before .before .before .before .before .before .before .exit .ensures) at (c .before .before .before .before .before .before .before .before .before .before .before .before .before .before .before .before .before .before .before .before .perform .ensures)) _ (c .before .before .before .before .before .before .before .before .before .before .before .before .before .before .acted .given .1)
-    (rw (c .before .before .before .before .before .before .before .before .before .before .before .remember .ensures) at (c .before .before .before .before .before .before .before .deactivate .ensures)) (c .before .before .note .ensures _ stateLeft _ (c .before .before .before .left .ensures))
+    went-next _ _ _ (rw (c .before .before .before .before .before .before .before .before .before .before .before .before .before .before .before .before .before .before .before .before .before .before .before .exit .ensures) at (c .before .before .before .before .before .before .before .before .before .before .before .before .before .before .before .before .before .before .before .before .perform .ensures)) (c .before .before .before .before .before .before .before .before .before .before .before .before .before .before .acted .given .1)
+    (rw (noted-left, ← (c .before .before .before .before .before .before .before .before .before .before .before .remember .ensures), ← (c .before .before .before .before .before .before .before .deactivate .ensures)) (c .before .before .note .ensures _ stateLeft _ (c .before .before .before .left .ensures)))
 
 pub depart-spec : {M : Type 1} → statement M
 depart-spec =

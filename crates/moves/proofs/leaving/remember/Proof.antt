@@ -1,6 +1,7 @@
 -- The parent keeps history or not. Assumes nothing.
 use borrow.Author.Needs.{needs}
-use Rattle.moves.proofs.Leaves.{recorded, unrecorded}
+use Rattle.rules.specs.Lists.{if_then_else_}
+use Rattle.moves.specs.Steps.{remembered}
 use Rattle.moves.proofs.leaving.remember.Statement.{statement}
 use Rattle.moves.proofs.leaving.remember.Tie as tie
 
@@ -17,17 +18,12 @@ same-length : tie.Need-same-length
 same-length c = search needs
 
 returns : tie.Need-returns
-returns c =
-    let a = c .before .before .before .before .before .before .before .before .before .args in
-    recorded (a .chart .now) (a .s .0) (a .image .now) (c .before .before .before .before .before .before .parent .ensures)
-    (c .before .before .before .before .before .keeps-history .ensures) (c .before .before .before .before .if1 .taken)
-    (c .before .before .record-child .ensures)
+unfolding remembered if_then_else_
+returns c = rw (← (c .before .before .before .before .before .before .parent .ensures), ← (c .before .before .before .before .before .keeps-history .ensures), c .before .before .before .before .if1 .taken) (c .before .before .record-child .ensures)
 
 returns-2 : tie.Need-returns-2
-returns-2 c =
-    let a = c .before .before .before .before .before .args in
-    unrecorded (a .chart .now) (a .s .0) (a .image .now) (c .before .before .parent .ensures)
-    (c .before .keeps-history .ensures) (c .if1 .left)
+unfolding remembered if_then_else_
+returns-2 c = rw (← (c .before .before .parent .ensures), ← (c .before .keeps-history .ensures), c .if1 .left)
 
 pub remember-spec : {M : Type 1} → statement M
 remember-spec =
