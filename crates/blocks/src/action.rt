@@ -4,6 +4,7 @@ use crate::instruct::Left;
 use crate::instruct::Performed;
 use chart::blocks::Block;
 use chart::instructions;
+use chart::instructions::Instruction;
 use doing::Counts;
 use doing::Done;
 use rules::headers::Header;
@@ -17,6 +18,9 @@ ghost use Rattle.doing.specs.Held.{nowOf, outcomeOf};
 ghost use Rattle.blocks.specs.Stacks.{stackOf, Held};
 ghost use Rattle.blocks.specs.Performed.{ranOf};
 ghost use Rattle.blocks.specs.Code.{codeIn, paidFor};
+
+// The cells of the value stack.
+const CELLS: usize = Block::STACK as usize;
 
 // Instruction k of a block's part of a chart, paid before it.
 fn paid(
@@ -36,7 +40,7 @@ fn paid(
         Done::Refused(why) => Performed::Refused(why),
         Done::Went(left) => instruct::perform(
             part,
-            6 * (k as u32),
+            Instruction::SIZE * (k as u32),
             cells,
             taken,
             image,
@@ -81,7 +85,7 @@ pub fn perform(
     requires { ⌜ h ≡ headerOf (now chart) ⌝ }
     ensures { λ r. ⌜ outcomeOf r (now (image .exit)) (now (trace .exit)) ≡ rules.action (now (chart .entry)) (blockOf block) (nowOf (now (image .entry)) (now (trace .entry)) counts) ⌝ }
 {
-    let mut cells = [0i32; 16];
+    let mut cells = [0i32; CELLS];
     let part = instructions::of_block(chart, h, block);
     let performed = run(part, block.count, &mut cells, image, trace, counts);
     match performed {

@@ -18,6 +18,10 @@ pub struct Instruction {
     pub b: i16,
 }
 
+impl Instruction {
+    pub const SIZE: u32 = 6;
+}
+
 // The op of the instruction at a place, of a chart or of a part of one.
 pub fn op_at(bytes: &[u8], place: u32) -> Op
     ensures { λ r. ⌜ opMeant r ≡ opOf (byte (now (bytes .entry)) (place + 2)) ⌝ }
@@ -67,7 +71,7 @@ pub fn of_block(chart: &[u8], h: Header, block: Block) -> &[u8]
 {
     let length = chart.len();
     let start = places::instruction(h, block.start) as usize;
-    let end = start + 6 * (block.count as usize);
+    let end = start + Instruction::SIZE as usize * (block.count as usize);
     if end <= length {
         return &chart[start..end];
     }

@@ -13,6 +13,9 @@ ghost use Rattle.rules.specs.Image as rules;
 ghost use Rattle.chart.specs.Places.{headerOf};
 ghost use Rattle.image.specs.Counted.{Counted};
 
+// Numbers that a parent field can have.
+const PARENTS: usize = 256;
+
 // One more at a place.
 fn count_one(counts: &mut [u8], at: u8)
     requires { ⌜ byte (now counts) at < 255 ⌝ }
@@ -23,7 +26,7 @@ fn count_one(counts: &mut [u8], at: u8)
     fields::put_u8(counts, place, before + 1);
 }
 
-// How many children each state has, and how many of them are active: a place for each number that a parent can be.
+// How many children each state has, and how many of them are active.
 fn count(image: &[u8], chart: &[u8], h: Header, children: &mut [u8], active: &mut [u8])
     requires { ⌜ (h ≡ headerOf (now chart)) × ((now children ≡ replicate 256 0) × (now active ≡ replicate 256 0)) ⌝ }
     ensures { λ _. ⌜ Counted (now (image .entry)) (now (chart .entry)) (now (children .exit)) (now (active .exit)) ⌝ }
@@ -72,8 +75,8 @@ pub fn is_right(image: &[u8], chart: &[u8], h: Header) -> bool
     if !active::is_active(image, StateNo(0)) {
         return false;
     }
-    let mut children = [0u8; 256];
-    let mut active = [0u8; 256];
+    let mut children = [0u8; PARENTS];
+    let mut active = [0u8; PARENTS];
     count(image, chart, h, &mut children, &mut active);
     every_right(image, chart, h, &children, &active)
 }

@@ -15,6 +15,9 @@ ghost use Rattle.rules.specs.Fire as rules;
 ghost use Rattle.chart.specs.Places.{headerOf};
 ghost use Rattle.moves.specs.Steps.{overEnd};
 
+// More states than there are cannot be on a line.
+const PLACES: usize = Header::MOST_STATES as usize;
+
 // A state, its parent and so on, the root last; how many they are.
 fn line(chart: &[u8], s: StateNo, places: &mut [u8]) -> usize
     requires { ⌜ length (now places) ≡ 64 ⌝ }
@@ -63,7 +66,7 @@ fn common(chart: &[u8], h: Header, source: StateNo, target: StateNo, path: &[u16
     requires { ⌜ h ≡ headerOf (now chart) ⌝ }
     ensures { λ r. ⌜ r .0 ≡ rules.common (now (chart .entry)) (source .0) (target .0) (now (path .entry)) ⌝ }
 {
-    let mut above = [0u8; 64];
+    let mut above = [0u8; PLACES];
     let n = line(chart, source, &mut above);
     for i in 0..n {
         let s = StateNo(above[i]);

@@ -71,7 +71,7 @@ fn arrive(
     action::perform(chart, h, states::entry(chart, s), image, trace, after)
 }
 
-// A state is entered, with so many levels left below it and with it.
+// A state is entered: depth is how many levels it can have, itself and those below.
 pub fn enter(
     chart: &[u8],
     h: Header,

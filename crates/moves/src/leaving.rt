@@ -52,10 +52,13 @@ fn depart(
 fn is_active_child(chart: &[u8], image: &[u8], k: StateNo, s: StateNo) -> bool
     ensures { λ r. ⌜ r ≡ eqb (fieldsOf.parent (now (chart .entry)) (k .0)) (s .0) && isActive (now (image .entry)) (k .0) ⌝ }
 {
-    (states::parent(chart, k).0 == s.0) & active::is_active(image, k)
+    if states::parent(chart, k).0 != s.0 {
+        return false;
+    }
+    active::is_active(image, k)
 }
 
-// A state is left, with so many levels left below it and with it.
+// A state is left: depth is how many levels it can have, itself and those below.
 pub fn leave(
     chart: &[u8],
     h: Header,

@@ -16,6 +16,9 @@ cast-start c = search needs
 cast-end : tie.Need-cast-end
 cast-end c = search needs
 
+cast-end-2 : tie.Need-cast-end-2
+cast-end-2 c = search needs
+
 mul-end : tie.Need-mul-end
 mul-end c = search needs
 
@@ -65,6 +68,7 @@ of-block-spec =
     instruction-requires
     cast-start
     cast-end
+    cast-end-2
     mul-end
     add-end
     sub-result
