@@ -60,10 +60,11 @@ pub fn perform(code: &[u8], image: &mut [u8; IMAGE], items: &mut Vec<u32>, room:
 mod tests {
     use super::*;
 
+    const CORNERS_STDOUT: &str = include_str!("../crates/corners/stdout");
     const CORNERS: [i64; 5] = [-(1 << 31), -1, 0, 1, (1 << 31) - 1];
     const NAMES: [&str; 7] = ["add", "subtract", "multiply", "quotient", "remainder", "less", "equal"];
 
-    /// The paper's words for each op, over integers without bounds.
+    /// The paper's words for each op, over integers that hold every result.
     fn paper(op: usize, x: i64, y: i64) -> String {
         let z = match op {
             0 => x + y,
@@ -110,16 +111,29 @@ mod tests {
             assert_eq!(answer(&code, x, 0, 3), ((x == 0) as u8).to_string());
             lines += &format!("not {x}: {}\n", (x == 0) as u8);
         }
-        assert!(include_str!("../crates/corners/stdout").starts_with(&lines));
+        assert!(CORNERS_STDOUT.starts_with(&lines));
     }
 
     /// Load, store, raise, raise with room for one item: each instruction is paid before it.
     #[test]
     fn units_and_room() {
         let code = [instruction(1, 0), instruction(2, 2), instruction(11, 1), instruction(11, 1)];
-        let expected = [(0, 0, "0"), (1, 0, "refused 16"), (2, 2, "7"), (3, 2, "refused 16"), (3, 3, "7"), (4, 3, "refused 16"), (4, 4, "refused 20")];
+        let expected = [
+            (0, 0, "0"),
+            (1, 0, "refused 16"),
+            (2, 1, "refused 16"),
+            (2, 2, "7"),
+            (3, 2, "refused 16"),
+            (3, 3, "7"),
+            (4, 3, "refused 16"),
+            (4, 4, "refused 20"),
+        ];
+        let mut lines = String::new();
         for (count, units, said) in expected {
             assert_eq!(answer(&code[..count], 7, 0, units), said, "{count} instructions, {units} units");
+            lines += &format!("{count} instructions, {units} units: {said}\n");
         }
+        assert!(CORNERS_STDOUT.ends_with(&lines));
+        assert_eq!(CORNERS_STDOUT.lines().count(), 7 * 25 + 5 + expected.len());
     }
 }

@@ -22,7 +22,7 @@ use Rattle.chart.specs.Places.{headerOf, instructionPlace}
 use Rattle.chart.specs.Read.{blockOf, instructionFrom}
 use Rattle.chart.specs.declared.blocks.Block.{Block as CodeBlock}
 use Rattle.chart.proofs.Parts.{instruction-drop, same-fields}
-use Rattle.blocks.specs.Stacks.{stackOf, Held}
+use Rattle.blocks.specs.Stacks.{stackOf, Cells}
 use Rattle.blocks.specs.Code.{codeIn, instructed, paidFor}
 use Rattle.blocks.specs.Values.{combined, binaryMeant}
 use Rattle.blocks.specs.declared.values.Checked.{Checked}
@@ -154,8 +154,8 @@ module _ (i : Instruction) (st : Stack) (h : length st ≤ stackPlaces) where
   unfolding paidFor _>>_
   still-within n e = rw (sym e) at (paid-within (pay n))
 
-pub still-held : (i : Instruction) (cells last : List ℤ) (taken next : ℕ) (n : Now) {later : Now} → Held cells taken
-    → length last ≡ length cells → went (ran (stackOf last next)) later ≡ paidFor i (stackOf cells taken) n → Held last next
+pub still-held : (i : Instruction) (cells last : List ℤ) (taken next : ℕ) (n : Now) {later : Now} → Cells cells taken
+    → length last ≡ length cells → went (ran (stackOf last next)) later ≡ paidFor i (stackOf cells taken) n → Cells last next
 still-held i cells last taken next n held same e =
     record {
       all = same ∙ held .all;

@@ -12,6 +12,6 @@ stackOf cells zero = []
 stackOf cells (suc n) = getD cells n (pos 0) ∷ stackOf cells n
 
 -- the cells are the stack's places, and n of them are taken
-pub record Held (cells : List ℤ) (n : ℕ) : Type 0 where
+pub record Cells (cells : List ℤ) (n : ℕ) : Type 0 where
   pub all : length cells ≡ stackPlaces
   pub taken : n ≤ stackPlaces

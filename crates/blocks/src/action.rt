@@ -15,7 +15,7 @@ ghost use Rattle.rules.specs.Block as rules;
 ghost use Rattle.chart.specs.Places.{headerOf};
 ghost use Rattle.chart.specs.Read.{blockOf, instructionFrom};
 ghost use Rattle.doing.specs.Held.{nowOf, outcomeOf};
-ghost use Rattle.blocks.specs.Stacks.{stackOf, Held};
+ghost use Rattle.blocks.specs.Stacks.{stackOf, Cells};
 ghost use Rattle.blocks.specs.Performed.{ranOf};
 ghost use Rattle.blocks.specs.Code.{codeIn, paidFor};
 
@@ -32,7 +32,7 @@ fn paid(
     trace: &mut [u32],
     counts: Counts,
 ) -> Performed
-    requires { ⌜ Held (now cells) taken ⌝ }
+    requires { ⌜ Cells (now cells) taken ⌝ }
     ensures { λ r. ⌜ ranOf r (now (cells .exit)) (now (image .exit)) (now (trace .exit)) ≡ paidFor (instructionFrom (now (part .entry)) (6 * k)) (stackOf (now (cells .entry)) taken) (nowOf (now (image .entry)) (now (trace .entry)) counts) ⌝ }
 {
     let paid = doing::pay(counts);
@@ -59,7 +59,7 @@ pub fn run(
     trace: &mut [u32],
     counts: Counts,
 ) -> Performed
-    requires { ⌜ Held (now cells) 0 ⌝ }
+    requires { ⌜ Cells (now cells) 0 ⌝ }
     ensures { λ r. ⌜ ranOf r (now (cells .exit)) (now (image .exit)) (now (trace .exit)) ≡ rules.perform rules.noSend [] (codeIn (now (part .entry)) 0 count) (nowOf (now (image .entry)) (now (trace .entry)) counts) ⌝ }
 {
     let mut left = Left { counts, taken: 0 };

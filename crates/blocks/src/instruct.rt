@@ -12,10 +12,8 @@ use image::variables;
 use rules::items::Item;
 ghost use mathlib.Core.Path.{_≡_};
 ghost use mathlib.Core.List.{List};
-ghost use Prim.Native.Nat.{ℕ, _≤_};
+ghost use Prim.Native.Nat.{ℕ};
 ghost use lib.IntN.{ℤ};
-ghost use lib.ListN.{drop};
-ghost use Rattle.rules.specs.Chart.{stackPlaces};
 ghost use Rattle.rules.specs.Chart as ops;
 ghost use Rattle.rules.specs.Image.{Image};
 ghost use Rattle.rules.specs.Doing.{give};
@@ -23,7 +21,7 @@ ghost use Rattle.rules.specs.Block as rules;
 ghost use Rattle.chart.specs.Read.{instructionFrom};
 ghost use Rattle.doing.specs.Held.{nowOf};
 ghost use Rattle.blocks.specs.Values.{binaryMeant};
-ghost use Rattle.blocks.specs.Stacks.{stackOf, Held};
+ghost use Rattle.blocks.specs.Stacks.{stackOf, Cells};
 ghost use Rattle.blocks.specs.Performed.{ranOf};
 ghost use Rattle.blocks.specs.Code.{instructed};
 
@@ -39,7 +37,7 @@ pub enum Performed {
 }
 
 fn gives(cells: &mut [i32], taken: usize, counts: Counts, value: i32) -> Performed
-    requires { ⌜ Held (now cells) taken ⌝ }
+    requires { ⌜ Cells (now cells) taken ⌝ }
     ensures { λ r. ⌜ ((im : Image) (tr : List ℕ) → ranOf r (now (cells .exit)) im tr ≡ give (rules.ran (rules._onto_ value (stackOf (now (cells .entry)) taken))) (nowOf im tr counts)) ⌝ }
 {
     let more = stack::push(cells, taken, value);
@@ -51,7 +49,7 @@ fn gives(cells: &mut [i32], taken: usize, counts: Counts, value: i32) -> Perform
 
 // A binary op takes lower, then top.
 fn binary(op: Binary, cells: &mut [i32], taken: usize, counts: Counts) -> Performed
-    requires { ⌜ Held (now cells) taken ⌝ }
+    requires { ⌜ Cells (now cells) taken ⌝ }
     ensures { λ r. ⌜ ((im : Image) (tr : List ℕ) (i : ops.Instruction) → ranOf r (now (cells .exit)) im tr ≡ rules.instruct rules.noSend (binaryMeant op) i (stackOf (now (cells .entry)) taken) (nowOf im tr counts)) ⌝ }
 {
     let answer = values::combine(op, stack::lower(cells, taken), stack::top(cells, taken));
@@ -82,7 +80,7 @@ pub fn perform(
     trace: &mut [u32],
     counts: Counts,
 ) -> Performed
-    requires { ⌜ Held (now cells) taken ⌝ }
+    requires { ⌜ Cells (now cells) taken ⌝ }
     ensures { λ r. ⌜ ranOf r (now (cells .exit)) (now (image .exit)) (now (trace .exit)) ≡ instructed (instructionFrom (now (part .entry)) place) (stackOf (now (cells .entry)) taken) (nowOf (now (image .entry)) (now (trace .entry)) counts) ⌝ }
 {
     let op = instructions::op_at(part, place);

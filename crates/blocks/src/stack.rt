@@ -8,17 +8,17 @@ ghost use lib.ListN as list;
 ghost use Rattle.rules.specs.Chart.{stackPlaces};
 ghost use Rattle.rules.specs.Block as rules;
 ghost use Rattle.rules.specs.Block.{_onto_};
-ghost use Rattle.blocks.specs.Stacks.{stackOf, Held};
+ghost use Rattle.blocks.specs.Stacks.{stackOf, Cells};
 
 pub fn top(cells: &[i32], taken: usize) -> i32
-    requires { ⌜ Held (now cells) taken ⌝ }
+    requires { ⌜ Cells (now cells) taken ⌝ }
     ensures { λ r. ⌜ r ≡ rules.top (stackOf (now (cells .entry)) taken) ⌝ }
 {
     if taken < 1 { 0 } else { cells[taken - 1] }
 }
 
 pub fn lower(cells: &[i32], taken: usize) -> i32
-    requires { ⌜ Held (now cells) taken ⌝ }
+    requires { ⌜ Cells (now cells) taken ⌝ }
     ensures { λ r. ⌜ r ≡ rules.lower (stackOf (now (cells .entry)) taken) ⌝ }
 {
     if taken < 2 { 0 } else { cells[taken - 2] }
@@ -39,7 +39,7 @@ pub fn without_two(taken: usize) -> usize
 
 // A value goes on top, where a cell is left; how many are taken then.
 pub fn push(cells: &mut [i32], taken: usize, value: i32) -> usize
-    requires { ⌜ Held (now cells) taken ⌝ }
+    requires { ⌜ Cells (now cells) taken ⌝ }
     ensures { λ r. ⌜ (r ≤ stackPlaces) × (stackOf (now (cells .exit)) r ≡ (value onto stackOf (now (cells .entry)) taken)) ⌝ }
 {
     if taken < Block::STACK as usize {

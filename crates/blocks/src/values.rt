@@ -1,7 +1,7 @@
 // Arithmetic on signed 32-bit values: the result, or that it is outside.
 ghost use mathlib.Core.Path.{_≡_};
 ghost use lib.IntN.{_+ℤ_, _-ℤ_, _*ℤ_};
-ghost use Rattle.rules.specs.Bytes.{truth, equals, isZero};
+ghost use Rattle.rules.specs.Bytes.{truth, isZero};
 ghost use Rattle.blocks.specs.Values.{within32, quotientOf, remainderOf, combined};
 
 pub enum Checked {

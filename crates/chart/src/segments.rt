@@ -86,13 +86,7 @@ pub fn ends_on_state(chart: &[u8], h: Header, t: SegmentNo) -> bool
     byte_of(chart, h, t, 4) == 0
 }
 
-// The state that it ends on, where it does; else the junction.
-pub fn end_state(chart: &[u8], h: Header, t: SegmentNo) -> StateNo
-    ensures { λ r. ⌜ r .0 ≡ byte (now (chart .entry)) (segmentPlace h (t .0) + 5) ⌝ }
-{
-    StateNo(byte_of(chart, h, t, 5))
-}
-
+// The junction that it ends on, where it does not end on a state.
 pub fn end_junction(chart: &[u8], h: Header, t: SegmentNo) -> JunctionNo
     ensures { λ r. ⌜ r .0 ≡ byte (now (chart .entry)) (segmentPlace h (t .0) + 5) ⌝ }
 {

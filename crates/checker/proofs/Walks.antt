@@ -13,7 +13,7 @@ use lib.Dec.{eqb, leb}
 use borrow.Author.Tests.{le-leb, lt-leb}
 use Rattle.rules.specs.Bytes.{Bytes}
 use Rattle.rules.specs.Lists.{upFrom, every}
-use Rattle.rules.specs.Chart.{Block, Instruction}
+use Rattle.rules.specs.Chart.{Block, Instruction, stackPlaces}
 use Rattle.rules.specs.Accept.{Place, OpRule, opRule, barred, endsAt, depthAfter, stackRight}
 use Rattle.chart.specs.Read.{instructionFrom}
 use Rattle.checker.specs.Rules.{codeIn, stackIn, barredIn}
@@ -60,17 +60,17 @@ module _ (table : Bytes) (p : Place) (k : Block) where
       unfolding stackFrom stackRight
       stack-few h = rw (still, left-step table k j more, ← rule, lt-leb (r .takes) d h)
 
-      pub stack-deep : 16 < d - r .takes + r .gives → false ≡ stackIn table p k
+      pub stack-deep : stackPlaces < d - r .takes + r .gives → false ≡ stackIn table p k
       unfolding stackFrom stackRight depthAfter
       stack-deep h =
           rw
-          (still, left-step table k j more, ← rule, lt-leb (d - r .takes + r .gives) 16 h, and-false (leb (r .takes) d))
+          (still, left-step table k j more, ← rule, lt-leb (d - r .takes + r .gives) stackPlaces h, and-false (leb (r .takes) d))
 
-      pub stack-on : r .takes ≤ d → d - r .takes + r .gives ≤ 16 → stackIn table p k ≡ stackFrom (d - r .takes + r .gives) (j + 1)
+      pub stack-on : r .takes ≤ d → d - r .takes + r .gives ≤ stackPlaces → stackIn table p k ≡ stackFrom (d - r .takes + r .gives) (j + 1)
       unfolding stackFrom stackRight depthAfter
       stack-on h l =
           rw
-          (still, left-step table k j more, ← rule, le-leb (r .takes) d h, le-leb (d - r .takes + r .gives) 16 l)
+          (still, left-step table k j more, ← rule, le-leb (r .takes) d h, le-leb (d - r .takes + r .gives) stackPlaces l)
 
   -- what is barred
   pub barredFrom : ℕ → Bool

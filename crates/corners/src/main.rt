@@ -1,4 +1,4 @@
-// Each op at the corners of the values, performed as a block that loads its operands and stores its result: each line is the
+// Each op that computes, at the corners of the values, performed as a block that loads its operands and stores its result: each line is the
 // op, its operands, and the result or the refusal. At the end, what a block pays and what room it wants.
 use blocks::action;
 use chart::blocks::Block;
@@ -7,6 +7,7 @@ use doing::Counts;
 use doing::Done;
 use image::variables;
 use libc::STDOUT_FILENO;
+use rules::images::Image;
 
 const LEAST: i32 = -2147483648;
 
@@ -63,7 +64,7 @@ fn instruction(chart: &mut [u8], n: u8, op: u8, a: u8) {
 // Performs the first so many instructions with so many units and with room for one item, and says how it went: the third
 // variable, or the refusal.
 fn answer(chart: &[u8], count: u8, units: u32, x: i32, y: i32) {
-    let mut image = [0u8; 202];
+    let mut image = [0u8; Image::SIZE];
     let mut trace = [0u32; 1];
     variables::set(&mut image, 0, x);
     variables::set(&mut image, 1, y);

@@ -1,7 +1,7 @@
 -- The rules' doings at what the code holds: a unit paid or not, an item noted or not, an answer
 -- by its variant, and what is done for each of a list in turn. Assumes nothing.
 use mathlib.Core.Path.{_≡_, refl, sym}
-use mathlib.Core.List.{List, [], _∷_}
+use mathlib.Core.List.{List, [], _∷_, append-nil}
 use Prim.Native.Nat.{ℕ, zero, suc, _+_, _-_, _≤_, _<_}
 use native.Mathlib.Omega.{arith}
 use native.Mathlib.Numerals.{add-one}
@@ -10,7 +10,7 @@ use lib.Seq.{take-suc-set}
 use Rattle.rules.specs.Image.{Image}
 use Rattle.rules.specs.Doing as rules
 use Rattle.rules.specs.Doing.{Act, itemOf, because, Now, Outcome, refused, went, each}
-use Rattle.doing.specs.Held.{refusalOf, nowOf, outcomeOf}
+use Rattle.doing.specs.Held.{refusalOf, nowOf, outcomeOf, noted}
 use Rattle.doing.specs.declared.Refusal.{Refusal}
 use Rattle.doing.specs.declared.Counts.{Counts}
 use Rattle.doing.specs.declared.Done.{Done}
@@ -33,20 +33,29 @@ pay-paid im tr k h = paid (k .units) h
     paid zero h = absurd (h refl)
     paid (suc u) h = rw (less-one u) refl
 
-pub note-full : (im : Image) (tr : List ℕ) (k : Counts) (act : Act) (n : ℕ) → length tr ≤ k .items
-    → refused (because 20) ≡ rules.note act n (nowOf im tr k)
-unfolding rules.note
-note-full im tr k act n h =
+pub note-full : (im : Image) (tr : List ℕ) (k : Counts) (word : ℕ) → length tr ≤ k .items
+    → refused (because 20) ≡ noted word (nowOf im tr k)
+unfolding noted
+note-full im tr k word h =
     let none : length tr - k .items ≡ 0 = omega arith in
     rw none refl
 
-pub note-goes : (im : Image) (tr : List ℕ) (k : Counts) (act : Act) (n word : ℕ) → k .items < length tr → word ≡ itemOf act n
+-- with room, nothing is past the trace's end, before and after
+pub note-goes : (im : Image) (tr : List ℕ) (k : Counts) (word : ℕ) → k .items < length tr
     → went tt (nowOf im (set tr (k .items) word) (record { units = k .units; items = k .items + 1 }))
-    ≡ rules.note act n (nowOf im tr k)
-unfolding rules.note
-note-goes im tr k act n word h e =
+    ≡ noted word (nowOf im tr k)
+unfolding noted
+note-goes im tr k word h =
     let more : length tr - k .items ≡ suc (length tr - (k .items + 1)) = omega arith in
-    rw (more, length-set, add-one (k .items), take-suc-set tr (k .items) word h, e) refl
+    let before : k .items - length tr ≡ 0 = omega arith in
+    let after : k .items + 1 - length tr ≡ 0 = omega arith in
+    rw (more, length-set, before, after, append-nil, append-nil (take (k .items) tr), add-one (k .items), take-suc-set tr (k .items) word h) refl
+
+-- a word that tells an act is the rules' item
+pub as-noted : {o : Outcome (Unit {0})} {word : ℕ} (act : Act) (n : ℕ) (now : Now) → word ≡ itemOf act n
+    → o ≡ noted word now → o ≡ rules.note act n now
+unfolding noted rules.note
+as-noted act n now e told = rw e at told
 
 -- an answer by its variant: `after` computes with what it is
 pub went-on : {o : Outcome (Unit {0})} {d : Done} (im : Image) (tr : List ℕ) (k : Counts)

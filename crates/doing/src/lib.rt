@@ -5,7 +5,7 @@ ghost use mathlib.Core.List.{List};
 ghost use Prim.Native.Nat.{ℕ, _+_, _*_};
 ghost use Rattle.rules.specs.Image.{Image};
 ghost use Rattle.rules.specs.Doing as rules;
-ghost use Rattle.doing.specs.Held.{refusalOf, nowOf, outcomeOf};
+ghost use Rattle.doing.specs.Held.{refusalOf, nowOf, outcomeOf, noted};
 
 // Why a call is refused: made by `because` alone, and carried as it is.
 pub struct Refusal {
@@ -46,7 +46,7 @@ pub fn pay(counts: Counts) -> Done
 
 // One item is noted, or 20: the lent words are all the room there is.
 pub fn note(trace: &mut [u32], counts: Counts, item: Item) -> Done
-    ensures { λ r. ⌜ ((im : Image) (act : rules.Act) (n : ℕ) → item .kind * 65536 + item .number ≡ rules.itemOf act n → outcomeOf r im (now (trace .exit)) ≡ rules.note act n (nowOf im (now (trace .entry)) counts)) ⌝ }
+    ensures { λ r. ⌜ ((im : Image) → outcomeOf r im (now (trace .exit)) ≡ noted (item .kind * 65536 + item .number) (nowOf im (now (trace .entry)) counts)) ⌝ }
 {
     let at = counts.items;
     if trace.len() <= at {

@@ -1,6 +1,6 @@
 -- Two tables with a place for each state's number: how many children it has, and how many of them are active. Assumes nothing.
 use mathlib.Core.Path.{_≡_}
-use Prim.Native.Nat.{ℕ, _<_}
+use Prim.Native.Nat.{_<_}
 use lib.ListN.{length}
 use Rattle.rules.specs.Bytes.{Bytes, byte}
 use Rattle.rules.specs.Lists.{keep}

@@ -1,14 +1,14 @@
 // The active bits: state n is bit n.
+use rules::images::Image;
 use rules::numbers::StateNo;
 ghost use mathlib.Core.Path.{_≡_};
-ghost use Prim.Native.Nat.{_+_, _*_, _/_};
-ghost use Rattle.rules.specs.Lists.{range, every};
+ghost use Prim.Native.Nat.{_+_, _/_};
 ghost use Rattle.rules.specs.Image as rules;
 
 fn place(s: StateNo) -> usize
     ensures { λ r. ⌜ r ≡ 2 + s .0 / 8 ⌝ }
 {
-    2 + (s.0 as usize) / 8
+    Image::ACTIVE + (s.0 as usize) / 8
 }
 
 pub fn is_active(image: &[u8], s: StateNo) -> bool
@@ -42,7 +42,7 @@ pub fn deactivate(image: &mut [u8], s: StateNo)
 pub fn not_started(image: &[u8]) -> bool
     ensures { λ r. ⌜ r ≡ rules.notStarted (now (image .entry)) ⌝ }
 {
-    for i in 2..74 {
+    for i in Image::ACTIVE..Image::VARIABLES {
         if fields::u8_at(image, i) != 0 {
             return false;
         }

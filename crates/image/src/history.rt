@@ -2,6 +2,7 @@
 use chart::states;
 use chart::tree;
 use rules::headers::Header;
+use rules::images::Image;
 use rules::numbers::StateNo;
 ghost use mathlib.Core.Path.{_≡_};
 ghost use Rattle.rules.specs.Lists.{below, every};
@@ -11,13 +12,13 @@ ghost use Rattle.chart.specs.Places.{headerOf};
 pub fn recorded(image: &[u8], s: StateNo) -> StateNo
     ensures { λ r. ⌜ r .0 ≡ rules.recorded (now (image .entry)) (s .0) ⌝ }
 {
-    StateNo(fields::u8_at(image, 10 + s.0 as usize))
+    StateNo(fields::u8_at(image, Image::HISTORY + s.0 as usize))
 }
 
 pub fn record_child(image: &mut [u8], p: StateNo, s: StateNo)
     ensures { λ _. ⌜ now (image .exit) ≡ rules.recordChild (now (image .entry)) (p .0) (s .0) ⌝ }
 {
-    fields::put_u8(image, 10 + p.0 as usize, s.0);
+    fields::put_u8(image, Image::HISTORY + p.0 as usize, s.0);
 }
 
 // Whether a state's record is 0, or a child of the state that keeps history.

@@ -4,7 +4,7 @@ use chart::states;
 use rules::headers::Header;
 use rules::numbers::StateNo;
 ghost use mathlib.Core.Path.{_≡_};
-ghost use Prim.Native.Nat.{ℕ, _+_, _<_};
+ghost use Prim.Native.Nat.{_+_, _<_};
 ghost use lib.ListN.{replicate};
 ghost use Rattle.rules.specs.Bytes.{byte, put};
 ghost use Rattle.rules.specs.Lists.{if_then_else_, below, every};

@@ -1,13 +1,14 @@
 // The variables' values.
+use rules::images::Image;
 ghost use mathlib.Core.Path.{_≡_};
-ghost use Prim.Native.Nat.{_+_, _*_, _/_};
+ghost use Prim.Native.Nat.{_+_, _*_};
 ghost use Rattle.rules.specs.Bytes.{field, put};
 ghost use Rattle.rules.specs.Image as rules;
 
 fn place(v: u8) -> usize
     ensures { λ r. ⌜ r ≡ 74 + 4 * v ⌝ }
 {
-    74 + 4 * (v as usize)
+    Image::VARIABLES + 4 * (v as usize)
 }
 
 pub fn value(image: &[u8], v: u8) -> i32

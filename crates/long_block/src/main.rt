@@ -7,6 +7,7 @@ use doing::Counts;
 use doing::Done;
 use image::variables;
 use libc::STDOUT_FILENO;
+use rules::images::Image;
 
 const ROUNDS: u32 = 100000;
 
@@ -100,7 +101,7 @@ fn number(n: u32) {
 fn main() {
     let mut chart = [0u8; LENGTH];
     build(&mut chart);
-    let mut image = [0u8; 202];
+    let mut image = [0u8; Image::SIZE];
     number(again(&chart, &mut image));
     number(variables::number(&image, 0));
     number(variables::number(&image, 1));

@@ -15,13 +15,13 @@ ghost use Rattle.rules.specs.Fire as rules;
 ghost use Rattle.chart.specs.Places.{headerOf};
 ghost use Rattle.moves.specs.Steps.{overEnd};
 
-// More states than there are cannot be on a line.
+// The line's places: no more states than there are can be on it, and at most 9 are used.
 const PLACES: usize = Header::MOST_STATES as usize;
 
 // A state, its parent and so on, the root last; how many they are.
 fn line(chart: &[u8], s: StateNo, places: &mut [u8]) -> usize
-    requires { ⌜ length (now places) ≡ 64 ⌝ }
-    ensures { λ r. ⌜ (r ≤ 9) × (take r (now (places .exit)) ≡ fieldsOf.line (now (chart .entry)) fieldsOf.deepest (s .0)) ⌝ }
+    requires { ⌜ length (now places) ≡ fieldsOf.mostStates ⌝ }
+    ensures { λ r. ⌜ (r ≤ rules.levels) × (take r (now (places .exit)) ≡ fieldsOf.line (now (chart .entry)) fieldsOf.deepest (s .0)) ⌝ }
 {
     let mut at = s;
     let mut n: usize = 0;
@@ -79,7 +79,7 @@ fn common(chart: &[u8], h: Header, source: StateNo, target: StateNo, path: &[u16
     StateNo(0)
 }
 
-// If source, target and that state are one, its parent.
+// The arena: that state, or its parent where source, target and it are one.
 pub fn arena(chart: &[u8], h: Header, source: StateNo, target: StateNo, path: &[u16]) -> StateNo
     requires { ⌜ h ≡ headerOf (now chart) ⌝ }
     ensures { λ r. ⌜ r .0 ≡ rules.arena (now (chart .entry)) (source .0) (target .0) (now (path .entry)) ⌝ }

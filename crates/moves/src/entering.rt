@@ -95,7 +95,7 @@ pub fn enter(
     enter_children(chart, h, image, trace, left, depth - 1, target, s)
 }
 
-// Of an all-of state each child in ascending number, of a one-of state the chosen one.
+// Of an all-of state each child in ascending number, of a one-of state the chosen one: depth is how many levels each can have.
 pub fn enter_children(
     chart: &[u8],
     h: Header,

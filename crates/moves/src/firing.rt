@@ -79,8 +79,8 @@ pub fn fire(
     requires { ⌜ h ≡ headerOf (now chart) ⌝ }
     ensures { λ r. ⌜ outcomeOf r (now (image .exit)) (now (trace .exit)) ≡ rules.fire (now (chart .entry)) (source .0) (target .0) (now (path .entry)) (nowOf (now (image .entry)) (now (trace .entry)) counts) ⌝ }
 {
-    let place = arena::arena(chart, h, source, target, path);
-    let emptied = leaving::leave_children(chart, h, image, trace, counts, StateNo::LEVELS, place);
+    let ground = arena::arena(chart, h, source, target, path);
+    let emptied = leaving::leave_children(chart, h, image, trace, counts, StateNo::LEVELS, ground);
     let Done::Went(left) = emptied else {
         return emptied;
     };
@@ -96,6 +96,6 @@ pub fn fire(
         after,
         StateNo::LEVELS,
         target,
-        place,
+        ground,
     )
 }

@@ -59,7 +59,7 @@ fn is_active_child(chart: &[u8], image: &[u8], k: StateNo, s: StateNo) -> bool
 }
 
 // A state is left: depth is how many levels it can have, itself and those below.
-pub fn leave(
+fn leave(
     chart: &[u8],
     h: Header,
     image: &mut [u8],
@@ -85,7 +85,7 @@ pub fn leave(
     depart(chart, h, image, trace, after, s)
 }
 
-// The active children of s, the highest number first.
+// The active children of s, the highest number first: depth is how many levels each can have.
 pub fn leave_children(
     chart: &[u8],
     h: Header,

@@ -1,5 +1,5 @@
-// Who is entered and left, and in which order: a chart with one-of, all-of and history states, each of which raises 10 plus
-// its number on entry and 20 plus it on exit. Each line is what was done, the units paid and the trace; the next one has the
+// Who is entered and left, and in which order: a chart with one-of, all-of and history states, each of which but
+// the root raises 10 plus its number on entry and 20 plus it on exit. Each line is what was done, the units paid and the trace; the next one has the
 // active states and the recorded children.
 mod building; // the chart
 mod telling; // what is printed
@@ -10,6 +10,7 @@ use doing::Done;
 use moves::entering;
 use moves::firing;
 use moves::leaving;
+use rules::images::Image;
 use rules::numbers::StateNo;
 
 const ROOT: StateNo = StateNo(0);
@@ -90,10 +91,10 @@ fn enter_all(what: &[u8], chart: &[u8], image: &mut [u8]) {
 }
 
 fn refusals(chart: &[u8]) {
-    let mut image = [0u8; 202];
+    let mut image = [0u8; Image::SIZE];
     let mut trace = [0u32; 11];
     enter_root(b"the root, 10 units", chart, &mut image, 10, &mut trace);
-    let mut another = [0u8; 202];
+    let mut another = [0u8; Image::SIZE];
     let mut short = [0u32; 10];
     enter_root(
         b"the root, room for 10 items",
@@ -126,7 +127,7 @@ fn main() {
     telling::number(checker::refusal(&chart) as u64);
     telling::text(b"\n");
     refusals(&chart);
-    let mut image = [0u8; 202];
+    let mut image = [0u8; Image::SIZE];
     let mut trace = [0u32; 11];
     enter_root(b"the root", &chart, &mut image, 11, &mut trace);
     firings(&chart, &mut image);

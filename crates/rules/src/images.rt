@@ -16,6 +16,13 @@ pub enum Part {
 impl Image {
     pub const SIZE: usize = 202;
 
+    // Where the active bits, the history and the variables start.
+    pub const ACTIVE: usize = 2;
+
+    pub const HISTORY: usize = 10;
+
+    pub const VARIABLES: usize = 74;
+
     pub const LAST_LIFT: u32 = 63;
 
     pub fn of_lift(lift: u32, bytes: usize) -> Part

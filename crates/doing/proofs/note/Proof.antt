@@ -1,5 +1,4 @@
 -- There is room for one more word or not. Assumes nothing.
-use mathlib.Core.Path.{_∙_}
 use Rattle.doing.proofs.Laws.{note-full, note-goes}
 use borrow.Author.Needs.{needs}
 use Rattle.doing.proofs.note.Statement.{statement}
@@ -9,7 +8,7 @@ because-requires : tie.Need-because-requires
 because-requires c κs = search needs
 
 returns : tie.Need-returns
-returns c = λ im act n e. rw (c .because .ensures) (note-full im (c .before .before .before .args .trace .now) (c .before .before .before .args .counts) act n (c .before .if1 .taken))
+returns c = λ im. rw (c .because .ensures) (note-full im (c .before .before .before .args .trace .now) (c .before .before .before .args .counts) _ (c .before .if1 .taken))
 
 word-requires : tie.Need-word-requires
 word-requires c κs = search needs
@@ -27,7 +26,7 @@ same-length : tie.Need-same-length
 same-length c = search needs
 
 returns-2 : tie.Need-returns-2
-returns-2 c = λ im act n e. note-goes im (c .before .before .before .args .trace .now) (c .before .before .before .args .counts) act n _ (c .before .if1 .left) (c .word .ensures ∙ e)
+returns-2 c = λ im. rw (c .word .ensures) (note-goes im (c .before .before .before .args .trace .now) (c .before .before .before .args .counts) _ (c .before .if1 .left))
 
 pub note-spec : {M : Type 1} → statement M
 note-spec =

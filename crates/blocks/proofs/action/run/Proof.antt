@@ -9,7 +9,7 @@ use Rattle.rules.specs.Block.{noSend, perform}
 use Rattle.chart.specs.Read.{instructionFrom}
 use Rattle.blocks.specs.Code.{codeIn}
 use Rattle.doing.specs.Held.{nowOf}
-use Rattle.blocks.specs.Stacks.{stackOf, Held}
+use Rattle.blocks.specs.Stacks.{stackOf, Cells}
 use Rattle.blocks.proofs.Performing.{toPerform, run-start, run-end, run-refused, run-goes, still-held}
 use Rattle.blocks.proofs.action.run.Statement.{statement}
 use Rattle.blocks.proofs.action.run.Tie as tie
@@ -18,7 +18,7 @@ abbrev Inv-loop : tie.InvT-loop
 Inv-loop part count cells₀ image₀ trace₀ left₀ k₀ cells image trace left k =
     (toPerform part count k (stackOf cells (left .taken)) (nowOf image trace (left .counts))
     ≡ perform noSend [] (codeIn part 0 count) (nowOf image₀ trace₀ (left₀ .counts)))
-    × (Held cells (left .taken))
+    × (Cells cells (left .taken))
     × (length cells ≡ length cells₀) × (length image ≡ length image₀) × (length trace ≡ length trace₀)
 
 abbrev μ-loop : tie.MeasureT-loop

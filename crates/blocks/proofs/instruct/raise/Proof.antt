@@ -1,6 +1,6 @@
 -- The item is noted or not. Assumes nothing.
 use Rattle.rules.specs.Doing.{outputRaised}
-use Rattle.doing.proofs.Laws.{went-on, was-refused}
+use Rattle.doing.proofs.Laws.{as-noted, went-on, was-refused}
 use Rattle.blocks.specs.Stacks.{stackOf}
 use Rattle.blocks.proofs.Instructing.{raise-went, raise-refused}
 use borrow.Author.Needs.{needs}
@@ -23,13 +23,13 @@ same-length : tie.Need-same-length
 same-length c = search needs
 
 returns : tie.Need-returns
-returns c = λ im cells i same. raise-refused i (stackOf cells (c .before .before .before .before .before .before .before .before .before .args .taken)) _ _ same (was-refused im _ _ (c .before .before .before .before .before .note .ensures im outputRaised (c .before .before .before .before .before .before .before .before .before .args .output) (c .before .before .before .before .before .before .raised .ensures)) (c .before .noted .given .1))
+returns c = λ im cells i same. raise-refused i (stackOf cells (c .before .before .before .before .before .before .before .before .before .args .taken)) _ _ same (was-refused im _ _ (as-noted outputRaised (c .before .before .before .before .before .before .before .before .before .args .output) _ (c .before .before .before .before .before .before .raised .ensures) (c .before .before .before .before .before .note .ensures im)) (c .before .noted .given .1))
 
 same-length-2 : tie.Need-same-length-2
 same-length-2 c = search needs
 
 returns-2 : tie.Need-returns-2
-returns-2 c = λ im cells i same. raise-went i (stackOf cells (c .before .before .before .before .before .before .before .before .before .args .taken)) _ _ same (went-on im _ _ (c .before .before .before .before .before .note .ensures im outputRaised (c .before .before .before .before .before .before .before .before .before .args .output) (c .before .before .before .before .before .before .raised .ensures)) (c .before .noted2 .given .1))
+returns-2 c = λ im cells i same. raise-went i (stackOf cells (c .before .before .before .before .before .before .before .before .before .args .taken)) _ _ same (went-on im _ _ (as-noted outputRaised (c .before .before .before .before .before .before .before .before .before .args .output) _ (c .before .before .before .before .before .before .raised .ensures) (c .before .before .before .before .before .note .ensures im)) (c .before .noted2 .given .1))
 
 pub raise-spec : {M : Type 1} → statement M
 raise-spec =

@@ -2,6 +2,7 @@
 -- use it right from this depth on. The measure is how many are left. Assumes nothing.
 use mathlib.Core.Path.{_≡_, ap, _∙_}
 use Prim.Native.Nat.{_-_, _≤_}
+use Rattle.rules.specs.Chart.{stackPlaces}
 use borrow.Author.Needs.{needs}
 use native.Mathlib.Omega.{arith}
 use Rattle.rules.specs.Accept.{opRule}
@@ -14,7 +15,7 @@ use Rattle.checker.proofs.blocks.stack_right.Tie as tie
 
 abbrev Inv-loop : tie.InvT-loop
 Inv-loop table place block start count depth₀ j₀ depth j =
-    (j ≤ count) × (depth ≤ 16) ×
+    (j ≤ count) × (depth ≤ stackPlaces) ×
     (stackIn table (placeMeant place) (blockOf block) ≡ stackFrom table (placeMeant place) (blockOf block) depth j)
 
 abbrev μ-loop : tie.MeasureT-loop

@@ -1,4 +1,5 @@
 -- `firing::transit` meets its contract: the item, then the action. Assumes nothing.
+use Rattle.doing.proofs.Laws.{as-noted}
 use borrow.Author.Needs.{needs}
 use Rattle.rules.specs.Doing.{_>>_, transitionPerformed}
 use Rattle.rules.specs.Fire.{transit}
@@ -24,7 +25,7 @@ same-length c = search needs
 returns : tie.Need-returns
 unfolding transit _>>_
 returns c =
-    refused-ends _ _ _ (c .before .before .before .before .note .ensures _ transitionPerformed _ (c .before .before .before .before .before .transition .ensures))
+    refused-ends _ _ _ (as-noted transitionPerformed _ _ (c .before .before .before .before .before .transition .ensures) (c .before .before .before .before .note .ensures _))
     (c .enum-told .given .1)
 
 transition-action-requires : tie.Need-transition-action-requires
@@ -42,7 +43,7 @@ same-length-3 c = search needs
 returns-2 : tie.Need-returns-2
 unfolding transit _>>_
 returns-2 c =
-    went-next _ _ _ (c .before .before .before .before .before .before .before .before .before .before .before .before .before .note .ensures _ transitionPerformed _ (c .before .before .before .before .before .before .before .before .before .before .before .before .before .before .transition .ensures)) (c .before .before .before .before .before .before .before .before .before .noted .given .1)
+    went-next _ _ _ (as-noted transitionPerformed _ _ (c .before .before .before .before .before .before .before .before .before .before .before .before .before .before .transition .ensures) (c .before .before .before .before .before .before .before .before .before .before .before .before .before .note .ensures _)) (c .before .before .before .before .before .before .before .before .before .noted .given .1)
     (rw (c .before .before .before .before .before .before .before .transition-action .ensures, c .before .before .before .before .before .before .before .before .before .before .before .before .before .before .before .before .before .before .before .pre) at (c .before .before .before .before .perform .ensures))
 
 pub transit-spec : {M : Type 1} → statement M

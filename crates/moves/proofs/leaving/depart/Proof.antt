@@ -1,4 +1,5 @@
 -- `leaving::depart` meets its contract: the exit action, then the image with the record and without the bit. Assumes nothing.
+use Rattle.doing.proofs.Laws.{as-noted}
 use borrow.Author.Needs.{needs}
 use Rattle.rules.specs.Doing.{_>>_, change, stateLeft}
 use Rattle.moves.specs.Steps.{departing}
@@ -51,7 +52,7 @@ returns-2 : tie.Need-returns-2
 unfolding departing _>>_ change
 returns-2 c =
     went-next _ _ _ (rw (c .before .before .before .before .before .before .before .before .before .before .before .before .before .before .before .before .before .before .before .before .before .before .before .exit .ensures) at (c .before .before .before .before .before .before .before .before .before .before .before .before .before .before .before .before .before .before .before .before .perform .ensures)) (c .before .before .before .before .before .before .before .before .before .before .before .before .before .before .acted .given .1)
-    (rw (noted-left, ← (c .before .before .before .before .before .before .before .before .before .before .before .remember .ensures), ← (c .before .before .before .before .before .before .before .deactivate .ensures)) (c .before .before .note .ensures _ stateLeft _ (c .before .before .before .left .ensures)))
+    (rw (noted-left, ← (c .before .before .before .before .before .before .before .before .before .before .before .remember .ensures), ← (c .before .before .before .before .before .before .before .deactivate .ensures)) (as-noted stateLeft _ _ (c .before .before .before .left .ensures) (c .before .before .note .ensures _)))
 
 pub depart-spec : {M : Type 1} → statement M
 depart-spec =
