@@ -65,6 +65,7 @@ Sent = ℕ → State → Doing Bool
 unfoldable pub noSend : Sent
 noSend e b = give false
 
+-- if afterwards the owner is gone, the rest is abandoned
 unfoldable pub sentBy : State → Sending → Sent
 sentBy owner sending e b = do
   sending e b
