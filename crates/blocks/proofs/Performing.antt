@@ -1,6 +1,6 @@
 -- A block, instruction by instruction: what is still to perform, that the stack stays within its places, and that the block's
 -- part of a chart has its instructions. Assumes nothing.
-use mathlib.Core.Path.{_≡_, refl, sym, ap, _∙_}
+use mathlib.Core.Path.{_≡_, refl, sym, ap, subst, _∙_}
 use mathlib.Core.Bool.{Bool, true, false}
 use mathlib.Core.List.{List, [], _∷_, map}
 use Prim.Native.Nat.{ℕ, zero, suc, _+_, _-_, _*_, _≤_, _<_}
@@ -65,11 +65,11 @@ module _ (i : Instruction) (rest : List Instruction) (st : Stack) (n : Now) wher
 
 -- the instructions from k on: none, or the k-th and those after it
 module _ (part : Bytes) (k count : ℕ) where
-  code-end : count ≤ k → codeIn part k (count - k) ≡ []
+  pub code-end : count ≤ k → codeIn part k (count - k) ≡ []
   unfolding codeIn upFrom
   code-end h = rw (sub-eq-zero-of-le h)
 
-  code-step : k < count → codeIn part k (count - k) ≡ instructionFrom part (6 * k) ∷ codeIn part (k + 1) (count - (k + 1))
+  pub code-step : k < count → codeIn part k (count - k) ≡ instructionFrom part (6 * k) ∷ codeIn part (k + 1) (count - (k + 1))
   unfolding codeIn upFrom
   code-step h = let q : count - k ≡ suc (count - (k + 1)) = omega arith in rw q
 
@@ -150,9 +150,12 @@ module _ (i : Instruction) (st : Stack) (h : length st ≤ stackPlaces) where
   paid-within (refused r) = tt
   paid-within (went a n) = instruct-within (i .op) n
 
-  still-within : {st′ : Stack} {later : Now} (n : Now) → went (ran st′) later ≡ paidFor i st n → length st′ ≤ stackPlaces
+  paid-for-within : (n : Now) → Within (paidFor i st n)
   unfolding paidFor _>>_
-  still-within n e = rw (sym e) at (paid-within (pay n))
+  paid-for-within n = paid-within (pay n)
+
+  still-within : {st′ : Stack} {later : Now} (n : Now) → went (ran st′) later ≡ paidFor i st n → length st′ ≤ stackPlaces
+  still-within n e = rw (sym e) at (paid-for-within n)
 
 pub still-held : (i : Instruction) (cells last : List ℤ) (taken next : ℕ) (n : Now) {later : Now} → Cells cells taken
     → length last ≡ length cells → went (ran (stackOf last next)) later ≡ paidFor i (stackOf cells taken) n → Cells last next
@@ -161,6 +164,29 @@ still-held i cells last taken next n held same e =
       all = same ∙ held .all;
       taken = rw (stack-length last next) at (still-within i (stackOf cells taken) (rw (stack-length cells taken) (held .taken)) n e);
     }
+
+-- nor does a block
+rest-within : (rest : List Instruction) (o : Outcome Ran) → Within o
+    → ((st : Stack) (n : Now) → length st ≤ stackPlaces → Within (perform noSend st rest n))
+    → Within (after o (λ r. unlessAbandoned r abandoned (λ st′. perform noSend st′ rest)))
+unfolding unlessAbandoned give
+rest-within rest (refused r) first next = tt
+rest-within rest (went (ran st) n) first next = next st n first
+rest-within rest (went abandoned n) first next = tt
+
+ends : (st : Stack) (n : Now) → went (ran st) n ≡ perform noSend st [] n
+unfolding perform give
+ends st n = refl
+
+perform-within : (is : List Instruction) (st : Stack) (n : Now) → length st ≤ stackPlaces → Within (perform noSend st is n)
+perform-within [] st n h = subst Within (ends st n) h
+perform-within (i ∷ is) st n h =
+    subst Within (first-then i is st n) (rest-within is (paidFor i st n) (paid-for-within i st h n) (perform-within is))
+
+pub run-held : (is : List Instruction) (last : List ℤ) (next : ℕ) (n : Now) {later : Now} → length last ≡ stackPlaces
+    → went (ran (stackOf last next)) later ≡ perform noSend [] is n → Cells last next
+run-held is last next n all e =
+    record { all = all; taken = rw (stack-length last next) at (rw (sym e) at (perform-within is [] n (omega arith))) }
 
 -- what is read inside a part that is cut off is what stands there in the whole
 field-take : (w m : ℕ) (b : Bytes) (i : ℕ) → i + w ≤ m → field w (take m b) i ≡ field w b i
@@ -191,7 +217,7 @@ module _ (c : Chart) (start : ℕ) where
       let next : start + (k + 1) ≡ start + k + 1 = omega arith in
       rw (each k (omega arith)) (ap (_∷_ (instruction c (start + k))) (rw next at (code-same part n (k + 1) (λ i h. each i (omega arith)))))
 
-part-code : (c : Chart) (k : Block) → codeIn (take (6 * k .count) (drop (instructionAt c (k .start)) c)) 0 (k .count) ≡ code c k
+pub part-code : (c : Chart) (k : Block) → codeIn (take (6 * k .count) (drop (instructionAt c (k .start)) c)) 0 (k .count) ≡ code c k
 unfolding code
 part-code c k =
     let from : k .start + 0 ≡ k .start = omega arith in

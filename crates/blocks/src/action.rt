@@ -23,7 +23,7 @@ ghost use Rattle.blocks.specs.Code.{codeIn, paidFor};
 const CELLS: usize = Block::STACK as usize;
 
 // Instruction k of a block's part of a chart, paid before it.
-fn paid(
+pub fn paid(
     part: &[u8],
     k: u8,
     cells: &mut [i32],

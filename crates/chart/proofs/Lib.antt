@@ -3,3 +3,4 @@ pub mod Ranges
 pub mod Lines
 pub mod Firsts
 pub mod Own
+pub mod Sends

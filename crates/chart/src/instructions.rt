@@ -4,11 +4,13 @@ use crate::ops;
 use crate::ops::Op;
 use crate::places;
 use rules::headers::Header;
+use rules::numbers::StateNo;
 ghost use mathlib.Core.Path.{_≡_};
-ghost use Prim.Native.Nat.{_+_, _*_};
+ghost use Prim.Native.Nat.{_+_, _*_, _%_};
 ghost use lib.ListN.{take, drop};
-ghost use Rattle.rules.specs.Bytes.{byte, field, signed};
+ghost use Rattle.rules.specs.Bytes.{byte, field, signed, unsigned};
 ghost use Rattle.rules.specs.Chart.{opOf};
+ghost use Rattle.rules.specs.Accept.{isSend};
 ghost use Rattle.chart.specs.Places.{instructionPlace};
 ghost use Rattle.chart.specs.Read.{opMeant, instructionOf, instructionFrom};
 
@@ -29,6 +31,12 @@ pub fn op_at(bytes: &[u8], place: u32) -> Op
     ops::numbered(fields::u8_at(bytes, place as usize + 2))
 }
 
+pub fn is_send(bytes: &[u8], place: u32) -> bool
+    ensures { λ r. ⌜ r ≡ isSend (opOf (byte (now (bytes .entry)) (place + 2))) ⌝ }
+{
+    fields::u8_at(bytes, place as usize + 2) == 12
+}
+
 // Its operands.
 pub fn a_at(bytes: &[u8], place: u32) -> u8
     ensures { λ r. ⌜ r ≡ byte (now (bytes .entry)) (place + 3) ⌝ }
@@ -40,6 +48,13 @@ pub fn b_at(bytes: &[u8], place: u32) -> i16
     ensures { λ r. ⌜ r ≡ signed 2 (field 2 (now (bytes .entry)) (place + 4)) ⌝ }
 {
     fields::i16_at(bytes, place as usize + 4)
+}
+
+// The state that a send names: of its second operand one byte is read.
+pub fn state_at(bytes: &[u8], place: u32) -> StateNo
+    ensures { λ r. ⌜ r .0 ≡ unsigned 2 (signed 2 (field 2 (now (bytes .entry)) (place + 4))) % 256 ⌝ }
+{
+    StateNo(fields::u8_at(bytes, place as usize + 4))
 }
 
 pub fn at(bytes: &[u8], place: u32) -> Instruction

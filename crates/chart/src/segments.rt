@@ -86,7 +86,13 @@ pub fn ends_on_state(chart: &[u8], h: Header, t: SegmentNo) -> bool
     byte_of(chart, h, t, 4) == 0
 }
 
-// The junction that it ends on, where it does not end on a state.
+// The state that it ends on, and the junction where it does not end on a state.
+pub fn end_state(chart: &[u8], h: Header, t: SegmentNo) -> StateNo
+    ensures { λ r. ⌜ r .0 ≡ byte (now (chart .entry)) (segmentPlace h (t .0) + 5) ⌝ }
+{
+    StateNo(byte_of(chart, h, t, 5))
+}
+
 pub fn end_junction(chart: &[u8], h: Header, t: SegmentNo) -> JunctionNo
     ensures { λ r. ⌜ r .0 ≡ byte (now (chart .entry)) (segmentPlace h (t .0) + 5) ⌝ }
 {
@@ -117,7 +123,8 @@ pub fn transition_action(chart: &[u8], h: Header, t: SegmentNo) -> Block
     block_of(chart, h, t, 15)
 }
 
-fn starts(chart: &[u8], h: Header, kind: u8, number: u8, t: SegmentNo) -> bool
+// Whether it starts there.
+pub fn starts(chart: &[u8], h: Header, kind: u8, number: u8, t: SegmentNo) -> bool
     ensures { λ r. ⌜ r ≡ startsIn (now (chart .entry)) h kind number (t .0) ⌝ }
 {
     (byte_of(chart, h, t, 2) == kind) & (byte_of(chart, h, t, 3) == number)
@@ -155,4 +162,20 @@ pub fn own(chart: &[u8], h: Header, j: JunctionNo, from: u16) -> Next
     ensures { λ r. ⌜ r ≡ firstSegment (startingFrom (now (chart .entry)) h 2 (j .0) from) ⌝ }
 {
     starting(chart, h, 2, j.0, from)
+}
+
+// The next of the list that a segment stands in.
+pub fn after(chart: &[u8], h: Header, t: SegmentNo) -> Next
+    ensures { λ r. ⌜ r ≡ firstSegment (startingFrom (now (chart .entry)) h (byte (now (chart .entry)) (segmentPlace h (t .0) + 2)) (byte (now (chart .entry)) (segmentPlace h (t .0) + 3)) (t .0 + 1)) ⌝ }
+{
+    if h.segments <= t.0 {
+        return Next::End;
+    }
+    starting(
+        chart,
+        h,
+        byte_of(chart, h, t, 2),
+        byte_of(chart, h, t, 3),
+        t.0 + 1,
+    )
 }

@@ -1,4 +1,5 @@
 -- What the code holds of a step, as the rules have it. Assumes nothing.
+use mathlib.Core.Bool.{Bool, true, false}
 use mathlib.Core.List.{List, _++_}
 use Prim.Native.Nat.{ℕ, _-_}
 use lib.ListN.{length, take, replicate}
@@ -8,6 +9,8 @@ use Rattle.doing.specs.declared.Refusal.{Refusal as CodeRefusal}
 use Rattle.doing.specs.declared.Counts.{Counts}
 use Rattle.doing.specs.declared.Done.{Done}
 use Rattle.doing.specs.declared.Done.the-variants.{Refused, Went}
+use Rattle.doing.specs.declared.Verdict.{Verdict}
+use Rattle.doing.specs.declared.Verdict.the-variants as verdict
 
 abbrev pub refusalOf : CodeRefusal → Refusal
 refusalOf r = because (r .number)
@@ -22,6 +25,12 @@ nowOf im tr k =
 abbrev pub outcomeOf : Done → Image → List ℕ → Outcome (Unit {0})
 outcomeOf (Refused r) im tr = refused (refusalOf r)
 outcomeOf (Went k) im tr = went tt (nowOf im tr k)
+
+-- a test's answer, with the image and the trace that it leaves
+abbrev pub verdictOf : Verdict → Image → List ℕ → Outcome Bool
+verdictOf (verdict.Refused r) im tr = refused (refusalOf r)
+verdictOf (verdict.Yes k) im tr = went true (nowOf im tr k)
+verdictOf (verdict.No k) im tr = went false (nowOf im tr k)
 
 -- a word is noted, or 20: the rules' `note` of the act and number that it tells
 unfoldable pub noted : ℕ → Doing (Unit {0})

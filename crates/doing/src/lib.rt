@@ -5,7 +5,7 @@ ghost use mathlib.Core.List.{List};
 ghost use Prim.Native.Nat.{ℕ, _+_, _*_};
 ghost use Rattle.rules.specs.Image.{Image};
 ghost use Rattle.rules.specs.Doing as rules;
-ghost use Rattle.doing.specs.Held.{refusalOf, nowOf, outcomeOf, noted};
+ghost use Rattle.doing.specs.Held.{refusalOf, nowOf, outcomeOf, verdictOf, noted};
 
 // Why a call is refused: made by `because` alone, and carried as it is.
 pub struct Refusal {
@@ -21,6 +21,18 @@ pub struct Counts {
 pub enum Done {
     Refused(Refusal),
     Went(Counts),
+}
+
+// A test that can be refused: the answer, and the counts after it.
+pub enum Verdict {
+    Refused(Refusal),
+    Yes(Counts),
+    No(Counts),
+}
+
+impl Counts {
+    // The largest allowance of a step, and the largest bound.
+    pub const MOST_UNITS: u32 = 1_000_000;
 }
 
 impl Refusal {
@@ -57,4 +69,20 @@ pub fn note(trace: &mut [u32], counts: Counts, item: Item) -> Done
         units: counts.units,
         items: at + 1,
     })
+}
+
+// What was done, as a test with that answer.
+pub fn told(done: Done, answer: bool) -> Verdict
+    ensures { λ r. ⌜ ((im : Image) (tr : List ℕ) → verdictOf r im tr ≡ rules.after (outcomeOf done im tr) (λ _. rules.give answer)) ⌝ }
+{
+    match done {
+        Done::Refused(why) => Verdict::Refused(why),
+        Done::Went(counts) => {
+            if answer {
+                Verdict::Yes(counts)
+            } else {
+                Verdict::No(counts)
+            }
+        }
+    }
 }

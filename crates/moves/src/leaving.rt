@@ -49,7 +49,7 @@ fn depart(
     doing::note(trace, left, Item::left(s))
 }
 
-fn is_active_child(chart: &[u8], image: &[u8], k: StateNo, s: StateNo) -> bool
+pub fn is_active_child(chart: &[u8], image: &[u8], k: StateNo, s: StateNo) -> bool
     ensures { λ r. ⌜ r ≡ eqb (fieldsOf.parent (now (chart .entry)) (k .0)) (s .0) && isActive (now (image .entry)) (k .0) ⌝ }
 {
     if states::parent(chart, k).0 != s.0 {

@@ -6,3 +6,6 @@ pub mod OneOutcome
 pub mod WrongEngines
 pub mod TypeNumbers
 pub mod StackDepth
+pub mod Keeping
+pub mod Spending
+pub mod Rooming

@@ -2,12 +2,12 @@
 use mathlib.Core.Bool.{Bool, false}
 use mathlib.Core.Bool as B
 use mathlib.Core.List.{List, [], _∷_}
-use Prim.Native.Nat.{ℕ}
+use Prim.Native.Nat.{ℕ, _%_}
 use lib.Dec.{ltb}
 use lib.ListN.{length, getD, drop}
-use lib.IntN.{ℤ, pos, _+ℤ_, _-ℤ_, _*ℤ_, natAbs}
+use lib.IntN.{ℤ, pos, _+ℤ_, _-ℤ_, _*ℤ_}
 use lib.Signed.{ltZ, quotZ, remZ}
-use Rattle.rules.specs.Bytes.{fits, equals, isZero, truth}
+use Rattle.rules.specs.Bytes.{fits, equals, isZero, truth, unsigned}
 use Rattle.rules.specs.Lists.{if_then_else_}
 use Rattle.rules.specs.Chart.{State, Chart, stackPlaces, Block, Op, push, load, store, add, subtract, multiply, quotient, remainder, less, equal, not, raise, send, unknown, Instruction, code}
 use Rattle.rules.specs.Image.{Image, isActive, variable, setVariable}
@@ -67,12 +67,10 @@ noSend e b = give false
 
 -- if afterwards the owner is gone, the rest is abandoned
 unfoldable pub sentBy : State → Sending → Sent
-sentBy owner sending e b = do
-  sending e b
-  im ← look
-  give (gone owner im)
+sentBy owner sending e b = sending e b >> (look >>= (λ im. give (gone owner im)))
 
 module _ (sent : Sent) where
+  -- the state of a send is b, of which one byte is read: in an accepted chart b is below 64
   unfoldable pub instruct : Op → Instruction → Stack → Doing Ran
   instruct push i st = give (ran (i .b onto st))
   instruct load i st = look >>= (λ im. give (ran (variable im (i .a) onto st)))
@@ -86,7 +84,7 @@ module _ (sent : Sent) where
   instruct equal i st = binary (λ x y. truth (equals x y)) st
   instruct not i st = give (ran (truth (isZero (top st)) onto drop 1 st))
   instruct raise i st = note outputRaised (i .a) >> give (ran st)
-  instruct send i st = sent (i .a) (natAbs (i .b)) >>= (λ b. give (if b then abandoned else ran st))
+  instruct send i st = sent (i .a) (unsigned 2 (i .b) % 256) >>= (λ b. give (if b then abandoned else ran st))
   instruct unknown i st = give (ran st)
 
   unfoldable pub perform : Stack → List Instruction → Doing Ran

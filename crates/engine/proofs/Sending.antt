@@ -1,0 +1,393 @@
+-- A segment's condition, a send, and a block that can send, as the code goes: what a refused answer or one that goes on makes
+-- of what follows, and what a block has still to perform from an instruction on. Assumes nothing.
+use mathlib.Core.Path.{_≡_, refl, sym, _∙_}
+use mathlib.Core.Bool.{Bool, true, false, _||_}
+use mathlib.Core.Bool as B
+use mathlib.Core.Logic.{_⊎_, ⊎-elim}
+use mathlib.Core.List.{List, [], _∷_}
+use Prim.Native.Nat.{ℕ, zero, suc, _+_, _-_, _*_, _≤_, _<_, _%_}
+use native.Mathlib.Omega.{arith}
+use lib.Dec.{eqb}
+use lib.ListN.{length, take, drop}
+use lib.IntN.{ℤ}
+use borrow.Author.Tests.{eq-eqb, ne-eqb}
+use Rattle.rules.specs.Bytes.{Bytes, byte, isZero, unsigned}
+use Rattle.rules.specs.Lists.{if_then_else_}
+use Rattle.rules.specs.Chart.{Chart, State, Op, Block, Instruction, blockAt, code}
+use Rattle.rules.specs.Chart as op
+use Rattle.rules.specs.Image.{Image, isActive}
+use Rattle.rules.specs.Accept.{opRule, isSend, isNone}
+use Rattle.rules.specs.Doing.{Refusal, because, Now, Outcome, refused, went, Doing, give, done, refuse, after, _>>=_, _>>_, look, pay, whenActive}
+use Rattle.rules.specs.Block.{Stack, Ran, ran, abandoned, unlessAbandoned, top, gone, Sending, Sent, noSend, sentBy, instruct, perform}
+use Rattle.rules.specs.Search.{holds, passes}
+use Rattle.rules.specs.Fire.{levels}
+use Rattle.rules.specs.Run.{run, send}
+use Rattle.rules.specs.declared.headers.Header.{Header}
+use Rattle.chart.specs.Places.{headerOf, segmentPlace, instructionPlace}
+use Rattle.chart.specs.Read.{blockOf, instructionFrom}
+use Rattle.chart.specs.declared.blocks.Block.{Block as CodeBlock}
+use Rattle.doing.specs.Held.{refusalOf, nowOf, outcomeOf, verdictOf}
+use Rattle.doing.specs.declared.Refusal.{Refusal as CodeRefusal}
+use Rattle.doing.specs.declared.Counts.{Counts}
+use Rattle.doing.specs.declared.Done.{Done}
+use Rattle.doing.specs.declared.Done.the-variants.{Refused, Went}
+use Rattle.doing.specs.declared.Verdict.{Verdict}
+use Rattle.doing.specs.declared.Verdict.the-variants as verdict
+use Rattle.blocks.specs.Stacks.{stackOf, Cells}
+use Rattle.blocks.specs.Performed.{ranOf}
+use Rattle.blocks.specs.declared.instruct.Left.{Left}
+use Rattle.blocks.specs.declared.instruct.Performed.{Performed}
+use Rattle.blocks.specs.declared.instruct.Performed.the-variants as performed
+use Rattle.blocks.specs.Code.{codeIn, instructed, paidFor}
+use Rattle.blocks.proofs.Performing.{code-end, code-step, still-held, part-code}
+use Rattle.rules.proofs.Keeping.{pay-keeps, noSend-keeps, instruct-keeps}
+use Rattle.rules.proofs.Spending.{Spends, fewer, pay-strict, then-spends}
+use Rattle.engine.proofs.Units.{went-falls, no-falls, paidSend-falls}
+use Rattle.doing.proofs.Verdict.{the-type}
+use denote.Enum.Declared.{tagOf}
+use Rattle.engine.specs.Told.{Try, failed, passed, cutOff, isAbandoned, tested, paidSend, acted, passing, passingWithin, tried}
+
+-- the first answer: refused, it is told as the answer of all; gone on, it leaves its counts to what follows
+module _ {o : Outcome (Unit {0})} {d : Done} (im : Image) (tr : List ℕ) {A : Type 0} (f : Unit {0} → Doing A)
+    (first : outcomeOf d im tr ≡ o) {all : Outcome A} where
+  pub told-refused : (g : Unit {0} → Doing A) {r : CodeRefusal} → all ≡ after (outcomeOf d im tr) g → d ≡ Refused r
+      → all ≡ after o f
+  told-refused g told w = rw (told, sym first, w)
+
+  pub went-then : {k : Counts} → d ≡ Went k → all ≡ f tt (nowOf im tr k) → all ≡ after o f
+  went-then w next = rw (sym first, w) next
+
+-- one unit less
+pub paid-less : (im : Image) (tr : List ℕ) (k : Counts) {d : Done} {k′ : Counts} → outcomeOf d im tr ≡ pay (nowOf im tr k)
+    → d ≡ Went k′ → k′ .units < k .units
+paid-less im tr k told w = went-falls (nowOf im tr k) im tr (record { at = pay-strict }) told w
+
+-- a test that is over where it says yes, and one that fails where it says no
+abbrev unlessOver : Doing Bool → Bool → Doing Bool
+unlessOver m b = if b then give true else m
+
+pub over : (v : Verdict) (im : Image) (tr : List ℕ) (m : Doing Bool) {o : Outcome Bool}
+    → (tagOf the-type v ≡ 0) ⊎ (tagOf the-type v ≡ 1) → verdictOf v im tr ≡ o → verdictOf v im tr ≡ after o (unlessOver m)
+unfolding give if_then_else_
+over (verdict.Refused r) im tr m w told = rw (sym told)
+over (verdict.Yes k) im tr m w told = rw (sym told)
+over (verdict.No k) im tr m w told = absurd (⊎-elim (λ z. omega (arith, z)) (λ z. omega (arith, z)) w)
+
+fails : (v : Verdict) (im : Image) (tr : List ℕ) (m : Doing Try) {o : Outcome Bool}
+    → (tagOf the-type v ≡ 0) ⊎ (tagOf the-type v ≡ 2) → verdictOf v im tr ≡ o
+    → after (verdictOf v im tr) (λ _. give failed) ≡ after o (λ b. if b then m else give failed)
+unfolding if_then_else_
+fails (verdict.Refused r) im tr m w told = rw (sym told)
+fails (verdict.Yes k) im tr m w told = absurd (⊎-elim (λ z. omega (arith, z)) (λ z. omega (arith, z)) w)
+fails (verdict.No k) im tr m w told = rw (sym told)
+
+-- the instructions of a block's part of a chart are the block's
+module _ (c : Chart) (h : Header) (k : CodeBlock) (part : Bytes) (own : h ≡ headerOf c)
+    (cut : part ≡ take (6 * k .count) (drop (instructionPlace h (k .start)) c)) where
+  pub part-has : codeIn part 0 (k .count) ≡ code c (blockOf k)
+  part-has = rw (cut, own, part-code c (blockOf k))
+
+-- a condition: empty, refused, or by the top of the stack that it leaves
+module _ (c : Chart) (n : Now) where
+  unfoldable conditioned : Block → Outcome Bool
+  conditioned k =
+      if isNone k then went true n
+      else after (perform noSend [] (code c k) n) (λ r. unlessAbandoned r false (λ st. give (B.not (isZero (top st)))))
+
+  holds-by : (b : Bool) (m : Doing Bool) → (if b then give true else m) n ≡ (if b then went true n else m n)
+  unfolding give if_then_else_
+  holds-by true m = refl
+  holds-by false m = refl
+
+  module _ (h : Header) (own : h ≡ headerOf c) (t : ℕ) (k : CodeBlock) (is : blockOf k ≡ blockAt c (segmentPlace h t + 9)) where
+    holds-is : conditioned (blockOf k) ≡ holds c t n
+    unfolding conditioned holds _>>=_
+    holds-is = rw (is, own) (sym (holds-by _ _))
+
+    pub holds-empty : k .count ≡ 0 → went true n ≡ holds c t n
+    unfolding conditioned isNone if_then_else_
+    holds-empty e = rw (eq-eqb (k .count) 0 e) at holds-is
+
+    module _ (some : k .count ≡ 0 → ⊥) (part : Bytes) (cut : part ≡ take (6 * k .count) (drop (instructionPlace h (k .start)) c))
+        (v : Performed) (cells : List ℤ) (im : Image) (tr : List ℕ)
+        (told : ranOf v cells im tr ≡ perform noSend [] (codeIn part 0 (k .count)) n) where
+      holds-run : after (ranOf v cells im tr) (λ r. unlessAbandoned r false (λ st. give (B.not (isZero (top st))))) ≡ holds c t n
+      unfolding conditioned isNone if_then_else_
+      holds-run = rw (told, part-has c h k part own cut) (rw (ne-eqb (k .count) 0 some) at holds-is)
+
+      pub holds-refused : {r : CodeRefusal} → v ≡ performed.Refused r → refused (refusalOf r) ≡ holds c t n
+      holds-refused w = rw w at holds-run
+
+      pub holds-top : {l : Left} {x : ℤ} {z : Bool} → v ≡ performed.Ran l → x ≡ top (stackOf cells (l .taken)) → z ≡ isZero x
+          → went (B.not z) (nowOf im tr (l .counts)) ≡ holds c t n
+      unfolding unlessAbandoned give
+      holds-top w is q = rw (q, is) (rw w at holds-run)
+
+-- a segment passes by its event, and then by its condition
+module _ (c : Chart) (h : Header) (own : h ≡ headerOf c) (e t : ℕ) (n : Now)
+    {wanted : ℕ} (is : wanted ≡ byte c (segmentPlace h t + 6)) where
+  pub passes-on : {all : Outcome Bool} → (eqb wanted 0 || eqb wanted e) ≡ true → all ≡ holds c t n → all ≡ passes c e t n
+  unfolding passes if_then_else_
+  passes-on q all = rw (rw (is, own) at q) all
+
+  pub passes-off : (eqb wanted 0 || eqb wanted e) ≡ false → went false n ≡ passes c e t n
+  unfolding passes if_then_else_ give
+  passes-off q = rw (rw (is, own) at q)
+
+-- a send: to a state that is not active, with no send left to open, and with one
+module _ (c : Chart) (e b : ℕ) (im : Image) (tr : List ℕ) (k : Counts) where
+  pub send-idle : (n : ℕ) → isActive im b ≡ false → went tt (nowOf im tr k) ≡ send c n e b (nowOf im tr k)
+  unfolding send whenActive if_then_else_ done give
+  send-idle zero q = rw q
+  send-idle (suc n) q = rw q
+
+  pub send-barred : (n : ℕ) → isActive im b ≡ true → n ≡ 0 → refused (because 18) ≡ send c n e b (nowOf im tr k)
+  unfolding send whenActive if_then_else_ refuse
+  send-barred n q z = rw (z, q)
+
+  pub send-runs : (n : ℕ) → isActive im b ≡ true → (n ≡ 0 → ⊥)
+      → run c (send c (n - 1)) e levels b (nowOf im tr k) ≡ send c n e b (nowOf im tr k)
+  unfolding send whenActive if_then_else_
+  send-runs zero q h = absurd (h refl)
+  send-runs (suc n) q h = let less : suc n - 1 ≡ n = omega arith in rw (q, less)
+
+-- a send from a block: whether the owner is gone then
+module _ (owner : State) (im : Image) (tr : List ℕ) where
+  look-gone : (d : Done) → after (outcomeOf d im tr) (λ _. give (gone owner im))
+      ≡ after (outcomeOf d im tr) (λ _. look >>= (λ im. give (gone owner im)))
+  unfolding _>>=_ look
+  look-gone (Refused r) = refl
+  look-gone (Went k) = refl
+
+  pub sent-told : (sending : Sending) (e b : ℕ) (d : Done) {n : Now} {all : Outcome Bool} {g : Bool}
+      → outcomeOf d im tr ≡ sending e b n → g ≡ gone owner im → all ≡ after (outcomeOf d im tr) (λ _. give g)
+      → all ≡ sentBy owner sending e b n
+  unfolding sentBy _>>_
+  sent-told sending e b d sent is told = rw (told, is, sym sent) (look-gone d)
+
+-- an instruction that is no send is performed alike where sends are barred
+plain : (sent : Sent) (o : Op) (i : Instruction) (st : Stack) → isSend o ≡ false → instruct sent o i st ≡ instruct noSend o i st
+unfolding instruct isSend opRule
+plain sent op.push i st q = refl
+plain sent op.load i st q = refl
+plain sent op.store i st q = refl
+plain sent op.add i st q = refl
+plain sent op.subtract i st q = refl
+plain sent op.multiply i st q = refl
+plain sent op.quotient i st q = refl
+plain sent op.remainder i st q = refl
+plain sent op.less i st q = refl
+plain sent op.equal i st q = refl
+plain sent op.not i st q = refl
+plain sent op.raise i st q = refl
+plain sent op.send i st q = let z : _≡_ {A = ℕ} 0 1 = cc in absurd (omega arith)
+plain sent op.unknown i st q = refl
+
+sends-only : (o : Op) → isSend o ≡ true → o ≡ op.send
+unfolding isSend opRule
+sends-only op.push q = cc
+sends-only op.load q = cc
+sends-only op.store q = cc
+sends-only op.add q = cc
+sends-only op.subtract q = cc
+sends-only op.multiply q = cc
+sends-only op.quotient q = cc
+sends-only op.remainder q = cc
+sends-only op.less q = cc
+sends-only op.equal q = cc
+sends-only op.not q = cc
+sends-only op.raise q = cc
+sends-only op.send q = refl
+sends-only op.unknown q = cc
+
+-- the first instruction, and then the rest: one that is no send, and a send, which can end the block
+abbrev onward : (Stack → Doing Ran) → Ran → Doing Ran
+onward f r = unlessAbandoned r abandoned f
+
+abbrev answer : Ran → Doing Bool
+answer r = give (isAbandoned r)
+
+after-after : {A B C : Type 0} (o : Outcome A) (f : A → Doing B) (g : B → Doing C) → after (after o f) g ≡ after o (λ a. f a >>= g)
+unfolding _>>=_
+after-after (refused r) f g = refl
+after-after (went a n) f g = refl
+
+module _ (st : Stack) (f : Stack → Doing Ran) where
+  abbrev sendEnds : Bool → Doing Ran
+  sendEnds b = give (if b then abandoned else ran st)
+
+  after-told : (o : Outcome Bool) → after (after (after o sendEnds) (onward f)) answer ≡ after o (unlessOver (f st >>= answer))
+  unfolding give if_then_else_ unlessAbandoned isAbandoned _>>=_
+  after-told (refused r) = refl
+  after-told (went true n) = refl
+  after-told (went false n) = refl
+
+  after-paid : (s : Doing Bool) (o : Outcome (Unit {0}))
+      → after (after o (λ _. (s >>= sendEnds) >>= onward f)) answer ≡ after (after o (λ _. s)) (unlessOver (f st >>= answer))
+  unfolding _>>=_
+  after-paid s (refused r) = refl
+  after-paid s (went a n) = after-told (s n)
+
+module _ (sent : Sent) (i : Instruction) (rest : List Instruction) (st : Stack) (n : Now) where
+  plain-then : isSend (i .op) ≡ false
+      → perform sent st (i ∷ rest) n ≡ after (paidFor i st n) (onward (λ st′. perform sent st′ rest))
+  unfolding paidFor instructed perform _>>_
+  plain-then q = rw (plain sent (i .op) i st q) (sym (after-after (pay n) (λ _. instruct noSend (i .op) i st) _))
+
+  abbrev itsSend : Doing Bool
+  itsSend = sent (i .a) (unsigned 2 (i .b) % 256)
+
+  send-then : isSend (i .op) ≡ true
+      → after (perform sent st (i ∷ rest) n) answer ≡ after ((pay >> itsSend) n) (unlessOver (perform sent st rest >>= answer))
+  unfolding perform instruct _>>_
+  send-then q = rw (sends-only (i .op) q) (after-paid st (λ st′. perform sent st′ rest) itsSend (pay n))
+
+paidFor-spends : (i : Instruction) (st : Stack) → Spends (paidFor i st)
+unfolding paidFor instructed
+paidFor-spends i st = then-spends (pay-keeps fewer) (instruct-keeps fewer (noSend-keeps fewer) (i .op) i st)
+
+-- what a block has still to perform: the instructions from k on; whether the rest of the owner's run is abandoned then
+unfoldable pub toAct : Sent → Bytes → ℕ → ℕ → Stack → Doing Bool
+toAct sent part count k st = perform sent st (codeIn part k (count - k)) >>= answer
+
+-- at the start it is the block, at the end nothing more
+pub act-start : (c : Chart) (sends owner : ℕ) (h : Header) (k : CodeBlock) (part : Bytes) (cells : List ℤ) (n : Now) → h ≡ headerOf c
+    → part ≡ take (6 * k .count) (drop (instructionPlace h (k .start)) c)
+    → toAct (sentBy owner (send c sends)) part (k .count) 0 (stackOf cells 0) n ≡ acted c sends owner (blockOf k) n
+unfolding toAct acted stackOf
+act-start c sends owner h k part cells n own cut =
+    let all : k .count - 0 ≡ k .count = omega arith in
+    rw (all, part-has c h k part own cut)
+
+abbrev here : Bytes → ℕ → Instruction
+here part k = instructionFrom part (6 * k)
+
+abbrev later : Bytes → ℕ → ℕ → List Instruction
+later part count k = codeIn part (k + 1) (count - (k + 1))
+
+module _ (sent : Sent) (part : Bytes) (count k : ℕ) (st : Stack) (n : Now) where
+  pub act-end : count ≤ k → went false n ≡ toAct sent part count k st n
+  unfolding toAct perform give isAbandoned _>>=_
+  act-end h = rw (code-end part k count h)
+
+  -- no send
+  module _ (more : k < count) (plain : isSend (here part k .op) ≡ false) where
+    act-plain : after (after (paidFor (here part k) st n) (onward (λ st′. perform sent st′ (later part count k)))) answer
+        ≡ toAct sent part count k st n
+    unfolding toAct _>>=_
+    act-plain = rw (code-step part k count more, plain-then sent (here part k) (later part count k) st n plain)
+
+    pub act-refused : {r : Refusal} → refused r ≡ paidFor (here part k) st n → refused r ≡ toAct sent part count k st n
+    act-refused e = rw (sym e) at act-plain
+
+    pub act-goes : {st′ : Stack} {n′ : Now} → went (ran st′) n′ ≡ paidFor (here part k) st n
+        → toAct sent part count (k + 1) st′ n′ ≡ toAct sent part count k st n
+    unfolding toAct _>>=_ unlessAbandoned
+    act-goes e = rw (sym e) at act-plain
+
+-- a send: the block is over, refused or abandoned, or the rest is still to perform
+module _ (c : Chart) (sends owner : ℕ) where
+  abbrev sentFrom : Sent
+  sentFrom = sentBy owner (send c sends)
+
+  module _ (part : Bytes) (count k : ℕ) (st : Stack) (n : Now) (more : k < count) (is : isSend (here part k .op) ≡ true) where
+    act-send : after (paidSend c sends owner (here part k) n) (unlessOver (toAct sentFrom part count (k + 1) st))
+        ≡ toAct sentFrom part count k st n
+    unfolding paidSend toAct _>>=_
+    act-send = rw (code-step part k count more) (sym (send-then sentFrom (here part k) (later part count k) st n is))
+
+    module _ (v : Verdict) (im : Image) (tr : List ℕ) (told : verdictOf v im tr ≡ paidSend c sends owner (here part k) n) where
+      pub act-sent : {next : Counts} → v ≡ verdict.No next
+          → toAct sentFrom part count (k + 1) st (nowOf im tr next) ≡ toAct sentFrom part count k st n
+      unfolding if_then_else_
+      act-sent w = rw (sym told, w) at act-send
+
+      pub act-over : (tagOf the-type v ≡ 0) ⊎ (tagOf the-type v ≡ 1) → verdictOf v im tr ≡ toAct sentFrom part count k st n
+      act-over w = over v im tr _ w told ∙ act-send
+
+-- a block's loop: what is still to perform is what was to perform at its start, and the cells hold the stack
+pub record Acting (sent : Sent) (part : Bytes) (count : ℕ) (im₀ : Image) (tr₀ : List ℕ) (k₀ : Counts) (at₀ : ℕ) (st₀ : Stack)
+    (im : Image) (tr : List ℕ) (k : Counts) (at : ℕ) (cells : List ℤ) (taken : ℕ) : Type 0 where
+  pub same : toAct sent part count at (stackOf cells taken) (nowOf im tr k) ≡ toAct sent part count at₀ st₀ (nowOf im₀ tr₀ k₀)
+  pub held : Cells cells taken
+  pub units : k .units ≤ k₀ .units
+  pub image : length im ≡ length im₀
+  pub trace : length tr ≡ length tr₀
+
+-- after an instruction: what a send leaves, and what another leaves, each as the code has it then
+module _ {part : Bytes} {count : ℕ} {im₀ : Image} {tr₀ : List ℕ} {k₀ : Counts} {at₀ : ℕ} {st₀ : Stack}
+    {im : Image} {tr : List ℕ} {k : Counts} {at : ℕ} {cells : List ℤ} {taken : ℕ} (c : Chart) (sends owner : ℕ)
+    (acting : Acting (sentFrom c sends owner) part count im₀ tr₀ k₀ at₀ st₀ im tr k at cells taken)
+    (more : at < count) {b : Bool} (sending : b ≡ isSend (here part at .op)) (im″ : Image) (tr″ : List ℕ) where
+  pub acting-sent : b ≡ true → {v : Verdict} → verdictOf v im″ tr″ ≡ paidSend c sends owner (here part at) (nowOf im tr k)
+      → {k″ : Counts} → v ≡ verdict.No k″ → length im″ ≡ length im → length tr″ ≡ length tr
+      → {im′ : Image} {tr′ : List ℕ} {k′ : Counts} {cells′ : List ℤ} {taken′ : ℕ}
+      → im′ ≡ im″ → tr′ ≡ tr″ → k′ ≡ k″ → cells′ ≡ cells → taken′ ≡ taken
+      → Acting (sentFrom c sends owner) part count im₀ tr₀ k₀ at₀ st₀ im′ tr′ k′ (at + 1) cells′ taken′
+  acting-sent q {v} told w li lt i t u x y =
+      let n = nowOf im tr k in
+      let less = no-falls n im″ tr″ (paidSend-falls c sends owner (here part at)) told w in
+      rw (i, t, u, x, y)
+      (record {
+        same = act-sent c sends owner part count at (stackOf cells taken) n more (sym sending ∙ q) v im″ tr″ told w ∙ acting .same;
+        held = acting .held;
+        units = omega (arith, less, acting .units);
+        image = li ∙ acting .image;
+        trace = lt ∙ acting .trace;
+      })
+
+  pub acting-goes : b ≡ false → {v : Performed} (cells″ : List ℤ)
+      → ranOf v cells″ im″ tr″ ≡ paidFor (here part at) (stackOf cells taken) (nowOf im tr k) → {l : Left} → v ≡ performed.Ran l
+      → length cells″ ≡ length cells → length im″ ≡ length im → length tr″ ≡ length tr
+      → {im′ : Image} {tr′ : List ℕ} {k′ : Counts} {cells′ : List ℤ} {taken′ : ℕ}
+      → im′ ≡ im″ → tr′ ≡ tr″ → k′ ≡ l .counts → cells′ ≡ cells″ → taken′ ≡ l .taken
+      → Acting (sentFrom c sends owner) part count im₀ tr₀ k₀ at₀ st₀ im′ tr′ k′ (at + 1) cells′ taken′
+  acting-goes q cells″ told {l} w lc li lt i t u x y =
+      let st = stackOf cells taken in
+      let n = nowOf im tr k in
+      let goes : went (ran (stackOf cells″ (l .taken))) (nowOf im″ tr″ (l .counts)) ≡ paidFor (here part at) st n = rw w at told in
+      rw (i, t, u, x, y)
+      (record {
+        same = act-goes _ part count at st n more (sym sending ∙ q) goes ∙ acting .same;
+        held = still-held (here part at) cells cells″ taken (l .taken) n (acting .held) lc goes;
+        units = omega (arith, paidFor-spends (here part at) st .at _ _ _ (sym goes), acting .units);
+        image = li ∙ acting .image;
+        trace = lt ∙ acting .trace;
+      })
+
+-- a segment that passes: with no segment more on the path, or its item and its condition action
+module _ (c : Chart) (sends owner t : ℕ) (n : Now) where
+  pub full-path : (m : ℕ) → m ≡ 0 → refused (because 19) ≡ passingWithin c sends m owner t n
+  unfolding passingWithin refuse
+  full-path m z = rw z
+
+  within-path : (m : ℕ) → (m ≡ 0 → ⊥)
+      → after (passing c sends owner t n) (λ b. give (if b then cutOff else passed)) ≡ passingWithin c sends m owner t n
+  unfolding passingWithin _>>=_
+  within-path zero h = absurd (h refl)
+  within-path (suc m) h = refl
+
+  module _ (m : ℕ) (some : m ≡ 0 → ⊥) {v : Verdict} (im : Image) (tr : List ℕ)
+      (told : verdictOf v im tr ≡ passing c sends owner t n) where
+    pub pass-refused : {r : CodeRefusal} → v ≡ verdict.Refused r → refused (refusalOf r) ≡ passingWithin c sends m owner t n
+    pass-refused w = rw (sym told, w) at (within-path m some)
+
+    pub pass-cut : {k : Counts} → v ≡ verdict.Yes k → went cutOff (nowOf im tr k) ≡ passingWithin c sends m owner t n
+    unfolding give if_then_else_
+    pass-cut w = rw (sym told, w) at (within-path m some)
+
+    pub pass-passed : {k : Counts} → v ≡ verdict.No k → went passed (nowOf im tr k) ≡ passingWithin c sends m owner t n
+    unfolding give if_then_else_
+    pass-passed w = rw (sym told, w) at (within-path m some)
+
+-- a segment is tried: it fails, or it passes and goes on
+module _ (c : Chart) (sends e owner m t : ℕ) (n : Now) {all : Outcome Try} (im : Image) (tr : List ℕ) where
+  pub tried-fails : (v : Verdict) → (tagOf the-type v ≡ 0) ⊎ (tagOf the-type v ≡ 2) → verdictOf v im tr ≡ tested c e t n
+      → all ≡ after (verdictOf v im tr) (λ _. give failed) → all ≡ tried c sends e owner m t n
+  unfolding tried _>>=_
+  tried-fails v w told is = is ∙ fails v im tr _ w told
+
+  pub tried-passes : {v : Verdict} {k : Counts} → v ≡ verdict.Yes k → verdictOf v im tr ≡ tested c e t n
+      → all ≡ passingWithin c sends m owner t (nowOf im tr k) → all ≡ tried c sends e owner m t n
+  unfolding tried _>>=_ if_then_else_
+  tried-passes w told is = rw (sym told, w) is

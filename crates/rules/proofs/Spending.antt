@@ -1,0 +1,98 @@
+-- No doing gives units back: what goes on does so with as many units or fewer, a relation that all the rules keep; and what
+-- begins with a pay does so with fewer. Assumes nothing.
+use mathlib.Core.Path.{_≡_}
+use mathlib.Core.Bool.{Bool}
+use mathlib.Core.List.{List}
+use Prim.Native.Nat.{ℕ, _≤_, _<_}
+use native.Mathlib.Omega.{arith}
+use Rattle.rules.specs.Lists.{if_then_else_}
+use Rattle.rules.specs.Chart.{State, Segment, Chart, Instruction}
+use Rattle.rules.specs.Doing.{Now, went, Doing, give, refuse, _>>=_, _>>_, pay, Act, note}
+use Rattle.rules.specs.Block.{Stack, Sending, Sent, sentBy, perform}
+use Rattle.rules.specs.Search.{passes, search}
+use Rattle.rules.specs.Fire.{fire}
+use Rattle.rules.specs.Run.{run, send, step}
+use Rattle.rules.proofs.Keeping.{Keeps, Lawful, paid-keeps, give-keeps, refuse-keeps, note-keeps, bind-keeps, then-keeps, if-keeps, sentBy-keeps, perform-keeps, passes-keeps, search-keeps, fire-keeps, run-keeps, send-keeps, step-keeps}
+pub use Rattle.rules.proofs.Keeping.{both-went}
+
+abbrev pub Fewer : Now → Now → Type 0
+Fewer n n′ = n′ .units ≤ n .units
+
+abbrev pub Spends : {A : Type 0} → Doing A → Type 0
+Spends m = Keeps Fewer m
+
+pub fewer : Lawful Fewer
+fewer =
+    record {
+      same = λ n. omega arith;
+      both = λ n n₁ n′ p q. omega arith;
+      paid = λ n u e. omega arith;
+      noted = λ n r i e. omega arith;
+      changed = λ n im. omega arith;
+    }
+
+-- the doings and the ways to join them
+
+module _ {A : Type 0} where
+  pub give-spends : (a : A) → Spends (give a)
+  give-spends a = give-keeps fewer a
+
+  pub refuse-spends : (k : ℕ) → Spends (refuse {A = A} k)
+  refuse-spends k = refuse-keeps fewer k
+
+  pub if-spends : {m k : Doing A} (t : Bool) → Spends m → Spends k → Spends (if t then m else k)
+  if-spends t sm sk = if-keeps fewer t sm sk
+
+pub note-spends : (act : Act) (k : ℕ) → Spends (note act k)
+note-spends act k = note-keeps fewer act k
+
+module _ {A B : Type 0} where
+  pub bind-spends : {m : Doing A} {f : A → Doing B} → Spends m → ((a : A) → Spends (f a)) → Spends (m >>= f)
+  bind-spends sm sf = bind-keeps fewer sm sf
+
+  pub then-spends : {m : Doing A} {k : Doing B} → Spends m → Spends k → Spends (m >> k)
+  then-spends sm sk = then-keeps fewer sm sk
+
+-- one unit goes
+pub pay-strict : (n : Now) (a : Unit {0}) (n′ : Now) → pay n ≡ went a n′ → n′ .units < n .units
+pay-strict = paid-keeps (λ n n′. n′ .units < n .units) (λ n u e. omega arith) .at
+
+module _ {A : Type 0} where
+  -- what begins with a pay goes on with fewer units
+  pub pay-then-strict : {m : Doing A} → Spends m → (n : Now) (a : A) (n′ : Now) → (pay >> m) n ≡ went a n′ → n′ .units < n .units
+  unfolding _>>_
+  pay-then-strict {m} sm n a n′ e =
+      both-went (pay n) (λ _. m) a n′ e (λ x n₁ e₁ e₂. omega (arith, pay-strict n x n₁ e₁, sm .at n₁ a n′ e₂))
+
+  pub pay-bind-strict : {f : Unit {0} → Doing A} → ((x : Unit {0}) → Spends (f x)) → (n : Now) (a : A) (n′ : Now) → (pay >>= f) n ≡ went a n′ → n′ .units < n .units
+  unfolding _>>=_
+  pay-bind-strict {f} sf n a n′ e =
+      both-went (pay n) f a n′ e (λ x n₁ e₁ e₂. omega (arith, pay-strict n x n₁ e₁, sf x .at n₁ a n′ e₂))
+
+-- the definitions of the rules
+
+pub sentBy-spends : (owner : State) {sending : Sending} → ((e : ℕ) (b : State) → Spends (sending e b)) → (e : ℕ) (b : State) → Spends (sentBy owner sending e b)
+sentBy-spends owner ss e b = sentBy-keeps fewer owner ss e b
+
+pub perform-spends : {sent : Sent} → ((e : ℕ) (b : State) → Spends (sent e b)) → (st : Stack) (is : List Instruction) → Spends (perform sent st is)
+perform-spends ss st is = perform-keeps fewer ss st is
+
+module _ (c : Chart) where
+  pub passes-spends : (e : ℕ) (t : Segment) → Spends (passes c e t)
+  passes-spends e t = passes-keeps fewer c e t
+
+  module _ {sending : Sending} (ss : (e : ℕ) (b : State) → Spends (sending e b)) (e : ℕ) where
+    pub search-spends : (source : State) (ts : List Segment) → Spends (search c sending e source ts)
+    search-spends source ts = search-keeps fewer c ss e source ts
+
+    pub run-spends : (d : ℕ) (p : State) → Spends (run c sending e d p)
+    run-spends d p = run-keeps fewer c ss e d p
+
+  pub fire-spends : (source target : State) (path : List Segment) → Spends (fire c source target path)
+  fire-spends source target path = fire-keeps fewer c source target path
+
+  pub send-spends : (n e : ℕ) (b : State) → Spends (send c n e b)
+  send-spends n e b = send-keeps fewer c n e b
+
+  pub step-spends : (e : ℕ) → Spends (step c e)
+  step-spends e = step-keeps fewer c e
