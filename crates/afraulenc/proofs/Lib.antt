@@ -1,0 +1,3 @@
+pub mod Committing
+pub mod Testing
+pub mod Bounding

@@ -1,0 +1,11 @@
+pub mod Growing
+pub mod Capping
+pub mod Tabling
+pub mod Starting
+pub mod Weighing
+pub mod Adding
+pub mod Anys
+pub mod Flagging
+pub mod Leading
+pub mod Reaching
+pub mod Told

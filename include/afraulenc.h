@@ -1,0 +1,93 @@
+/* Afraulenc for a host in C: the calls of libafraulenc.a, which is x86-64 code and calls nothing outside itself.
+ *
+ * A slice is a pointer and, behind it, how many bytes it has. Each call reads the chart, writes only where it says below, keeps
+ * no pointer, allocates nothing and ends. Any bytes whatever may stand in what is lent: they are answered by number. A refused
+ * call leaves every lent byte as it was.
+ *
+ * What no library can check is the caller's: a pointer is not null, even with a length of 0, and lends as many bytes as its
+ * length says; the lent slices do not overlap; no other thread writes them during the call. */
+#ifndef AFRAULENC_H
+#define AFRAULENC_H
+
+#include <stddef.h>
+#include <stdint.h>
+
+#define AFRAULENC_LIFTS 64      /* lifts of a board, counted from 0 */
+#define AFRAULENC_IMAGE 202     /* bytes of one lift's part: lift k owns 202 k to 202 k + 201 */
+#define AFRAULENC_BOARD (AFRAULENC_LIFTS * AFRAULENC_IMAGE)
+#define AFRAULENC_ITEM 4        /* bytes of a trace item */
+#define AFRAULENC_TRACE 1024    /* a longer trace is not used past these bytes */
+#define AFRAULENC_UNITS 1000000 /* the largest allowance, and the largest bound */
+
+/* One step of a lift with an event. It writes that lift's part of the board and the items at the start of the trace, and both
+ * only where it is not refused. The answer is refusal + 256 x items + 131,072 x units: see afraulenc_unpack. Refusals: 1 to 11
+ * of the chart, 12 no such lift on this board, 13 its image is not one of this chart, 14 no such event, 15 the allowance is too
+ * large, 16 it is used up, 17 a value outside 32 bits or a divisor 0, 18 a ninth send open, 19 a path of more than 128
+ * segments, 20 no room for an item. */
+uint64_t step(const uint8_t *chart, size_t chart_bytes, uint8_t *board, size_t board_bytes, uint8_t *trace, size_t trace_bytes,
+              uint32_t lift, uint32_t event, uint32_t allowance);
+
+/* A lift is made fresh for a chart: it writes that lift's part of the board alone. The answer is the refusal: 0, 1 to 12. */
+uint64_t fresh(const uint8_t *chart, size_t chart_bytes, uint8_t *board, size_t board_bytes, uint32_t lift);
+
+/* The units that no step on a chart can want more of. It writes nothing. The answer is refusal + 256 x bound: see
+ * afraulenc_unpack_bound. Refusals: 1 to 11 of the chart, 21 it sends, 22 segments lead from a junction back to it, 23 the
+ * bound is over 1,000,000. */
+uint64_t bound(const uint8_t *chart, size_t chart_bytes);
+
+/* A step's answer. All but the refusal is 0 where that is not 0. */
+struct afraulenc_answer {
+    unsigned refusal; /* 0: not refused */
+    unsigned items;   /* how many items stand at the start of the trace */
+    unsigned units;   /* how many units were used */
+};
+
+static inline struct afraulenc_answer afraulenc_unpack(uint64_t answer)
+{
+    struct afraulenc_answer told;
+    told.refusal = (unsigned)(answer % 256);
+    told.items = (unsigned)(answer / 256 % 512);
+    told.units = (unsigned)(answer / 131072);
+    return told;
+}
+
+/* The bound call's answer: the refusal, and the bound where that is 0. */
+struct afraulenc_bound {
+    unsigned refusal;
+    unsigned units;
+};
+
+static inline struct afraulenc_bound afraulenc_unpack_bound(uint64_t answer)
+{
+    struct afraulenc_bound told;
+    told.refusal = (unsigned)(answer % 256);
+    told.units = (unsigned)(answer / 256);
+    return told;
+}
+
+/* What a trace item tells of: the number is a state's, a segment's or an output's. */
+enum afraulenc_kind {
+    AFRAULENC_ENTERED = 1,    /* a state, before its entry action */
+    AFRAULENC_LEFT = 2,       /* a state, on becoming inactive */
+    AFRAULENC_DURING = 3,     /* a state, before its during action */
+    AFRAULENC_PASSED = 4,     /* a segment, before its condition action */
+    AFRAULENC_TRANSITION = 5, /* a segment, before its transition action */
+    AFRAULENC_RAISED = 6      /* an output */
+};
+
+struct afraulenc_item {
+    unsigned kind;
+    unsigned number;
+};
+
+/* The item at a place of the trace, counted from 0: for the places below `items` of the answer. */
+static inline struct afraulenc_item afraulenc_item_at(const uint8_t *trace, unsigned place)
+{
+    const uint8_t *at = trace + AFRAULENC_ITEM * (size_t)place;
+    struct afraulenc_item told;
+    told.kind = at[2] + 256u * at[3];
+    told.number = at[0] + 256u * at[1];
+    return told;
+}
+
+#endif
