@@ -4,3 +4,4 @@ pub mod Lines
 pub mod Firsts
 pub mod Own
 pub mod Sends
+pub mod Sources

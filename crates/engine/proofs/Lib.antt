@@ -1,3 +1,6 @@
+pub mod Joining
+pub mod Telling
+pub mod Listing
 pub mod Units
 pub mod Turning
 pub mod Running

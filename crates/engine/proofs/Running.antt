@@ -12,7 +12,7 @@ use borrow.Author.Tests.{eqb-true, eqb-false, ne-eqb, ltb-true, ltb-false}
 use Rattle.rules.specs.Lists.{if_then_else_, range, keep, first}
 use Rattle.rules.specs.Chart.{State, Segment, Chart, deepest, states, parent, isOneOf, children, during, outer, inner, code}
 use Rattle.rules.specs.Image.{Image, isActive}
-use Rattle.rules.specs.Doing.{Refusal, Now, Outcome, refused, went, Doing, Done, give, done, after, _>>=_, _>>_, look, pay, duringPoint, note, each, whenActive}
+use Rattle.rules.specs.Doing.{Refusal, Now, Outcome, refused, went, Done, give, done, after, _>>=_, _>>_, look, pay, duringPoint, note, each, whenActive}
 use Rattle.rules.specs.Block.{Ran, ran, abandoned, unlessAbandoned, sentBy, perform}
 use Rattle.rules.specs.Search.{Found, reached, nowhere, ended, cut, search}
 use Rattle.rules.specs.Fire.{levels, fire}
@@ -32,24 +32,8 @@ use Rattle.moves.proofs.Follows.{less-one}
 use Rattle.engine.specs.Told.{isAbandoned, acted, ending, followed, insideAlone, runAlone}
 use Rattle.engine.specs.Turns.{Whose, at, nobody, nextFrom, childsTurn, nextTurn}
 use Rattle.engine.proofs.Turning.{firstIn, none-past, found-here, found-later, follows-none, follows-next, child-turn, too-deep, turn-child, turn-over, turn-above, in-depth}
-use Rattle.engine.proofs.Units.{yes-falls, no-falls, runAlone-falls}
-
--- one after another
-
-module _ {A B C : Type 0} where
-  pub after-after : (o : Outcome A) (f : A → Doing B) (g : B → Doing C) → after (after o f) g ≡ after o (λ a n. after (f a n) g)
-  after-after (refused r) f g = refl
-  after-after (went a n) f g = refl
-
-module _ {A B : Type 0} where
-  pub after-same : (o : Outcome A) {f g : A → Doing B} → ((a : A) (n : Now) → f a n ≡ g a n) → after o f ≡ after o g
-  after-same (refused r) e = refl
-  after-same (went a n) e = e a n
-
-pub after-done : (o : Outcome (Unit {0})) → after o (λ _. done) ≡ o
-unfolding done give
-after-done (refused r) = refl
-after-done (went tt n) = refl
+use Rattle.engine.proofs.Joining.{after-after, after-same, after-done}
+use Rattle.engine.proofs.Units.{runAlone-falls, no-keeps, yes-keeps}
 
 module _ (c : Chart) (sends e : ℕ) (f : State → Done) (p : State) where
   -- what follows once p is run by itself
@@ -407,14 +391,14 @@ module _ {c : Chart} {sends e : ℕ} {im₀ : Image} {tr₀ : List ℕ} {k₀ : 
       pub between-over : {k′ : Counts} {from : ℕ} → v ≡ verdict.Yes k′ → from ≡ h .states → Between c h sends e im₀ tr₀ k₀ top k p d im′ tr′ k′ from
       between-over q f =
           record {
-            fewer = yes-falls (nowOf im tr k) im′ tr′ (runAlone-falls c sends e p) told q;
+            fewer = yes-keeps (nowOf im tr k) im′ tr′ (runAlone-falls c sends e p) told q;
             same = rw (f, own) (sym (alone-over c sends e d p (nowOf im tr k) (runs .depth) (rw q at (sym told))) ∙ runs .same);
           }
 
       pub between-on : {k′ : Counts} {from : ℕ} → v ≡ verdict.No k′ → from ≡ 1 → Between c h sends e im₀ tr₀ k₀ top k p d im′ tr′ k′ from
       between-on q f =
           record {
-            fewer = no-falls (nowOf im tr k) im′ tr′ (runAlone-falls c sends e p) told q;
+            fewer = no-keeps (nowOf im tr k) im′ tr′ (runAlone-falls c sends e p) told q;
             same = rw (f, own) (sym (alone-goes-on c sends e d p (nowOf im tr k) (runs .depth) (rw q at (sym told))) ∙ runs .same);
           }
 

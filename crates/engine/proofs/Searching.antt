@@ -1,8 +1,7 @@
 -- The search as the loops do it: the path is all that waits, since each segment of it says which list goes on after it.
--- What is to do from a place in the loops is what was to do at the start: one law for each way through them.
--- Assumes nothing.
-use mathlib.Core.Path.{_≡_, refl, sym, ap, _∙_}
-use mathlib.Core.Bool.{Bool, true, false, _&&_}
+-- What is to do from a place in the loops is what was to do at the start: one law for each way through. Assumes nothing.
+use mathlib.Core.Path.{_≡_, refl, sym, _∙_}
+use mathlib.Core.Bool.{Bool, true, false}
 use mathlib.Core.List.{List, [], _∷_, _++_}
 use Prim.Native.Nat.{ℕ, zero, suc, _+_, _*_, _-_, _≤_, _<_}
 use native.Mathlib.Omega.{arith}
@@ -10,93 +9,51 @@ use native.Mathlib.Numerals.{add-one}
 use lib.Dec.{eqb}
 use lib.ListN.{length, take, getD, set, length-set}
 use lib.Seq.{take-set-le, getD-set-same, getD-set-other, take-suc-set}
-use borrow.Author.Tests.{eqb-true, ne-eqb}
+use borrow.Author.Tests.{ne-eqb}
 use Rattle.rules.specs.Lists.{if_then_else_}
 use Rattle.rules.specs.Bytes.{byte}
-use Rattle.rules.specs.Chart.{State, Segment, Chart, sourceKind, source, conditionAction, destination, endsOnState, own, code}
+use Rattle.rules.specs.Chart.{State, Segment, Chart, conditionAction, destination, endsOnState, own, code}
 use Rattle.rules.specs.Image.{Image}
 use Rattle.rules.specs.Doing.{Now, Outcome, refused, went, Doing, after, give, refuse, _>>=_, _>>_, pay, segmentPassed, note}
 use Rattle.rules.specs.Block.{Ran, ran, abandoned, unlessAbandoned, sentBy, perform}
 use Rattle.rules.specs.Search.{Found, reached, nowhere, ended, cut, orNext, passes, tries, passed, search}
 use Rattle.rules.specs.Run.{send}
+use Rattle.rules.specs.declared.headers.Header.{Header}
+use Rattle.rules.specs.declared.numbers.SegmentNo.{SegmentNo}
 use Rattle.chart.specs.Places.{headerOf, segmentPlace}
-use Rattle.chart.specs.Read.{startsIn, startingFrom, firstSegment}
+use Rattle.chart.specs.Read.{startingFrom, firstSegment}
 use Rattle.chart.specs.declared.segments.Next.{Next}
 use Rattle.chart.specs.declared.segments.Next.the-variants as next-is
-use Rattle.chart.proofs.Ranges.{keep-end, keep-pass, keep-skip}
 use Rattle.chart.proofs.Own.{own-own}
 use Rattle.doing.specs.Held.{refusalOf, nowOf}
 use Rattle.doing.specs.declared.Refusal.{Refusal}
 use Rattle.doing.specs.declared.Counts.{Counts}
-use Rattle.rules.specs.declared.headers.Header.{Header}
-use Rattle.rules.specs.declared.numbers.SegmentNo.{SegmentNo}
+use Rattle.moves.proofs.Follows.{less-one}
 use Rattle.engine.specs.declared.cycle.Tried.{Tried}
 use Rattle.engine.specs.declared.cycle.Tried.the-variants as tried-is
 use Rattle.engine.specs.Told as told
-use Rattle.engine.proofs.Units.{tried-falls}
 use Rattle.engine.specs.Told.{Try, failed, cutOff, triedOf, isAbandoned, later, listOf, tested, acted, passing, passingWithin, tried}
-
--- what follows two doings that begin alike is alike if it is so whatever they come to
-alike : {A B C D : Type 0} (o : Outcome A) (f : A → Doing B) (g : B → Doing D) (f′ : A → Doing C) (g′ : C → Doing D)
-    → ((a : A) (n : Now) → after (f a n) g ≡ after (f′ a n) g′) → after (after o f) g ≡ after (after o f′) g′
-alike (refused r) f g f′ g′ same = refl
-alike (went a n) f g f′ g′ same = same a n
-
-alike₂ : {A B C D E : Type 0} (o : Outcome A) (f : A → Doing B) (g : B → Doing E) (f′ : A → Doing C) (g′ : C → Doing D) (h′ : D → Doing E)
-    → ((a : A) (n : Now) → after (f a n) g ≡ after (after (f′ a n) g′) h′) → after (after o f) g ≡ after (after (after o f′) g′) h′
-alike₂ (refused r) f g f′ g′ h′ same = refl
-alike₂ (went a n) f g f′ g′ h′ same = same a n
-
-alike₃ : {A B C D E F : Type 0} (o : Outcome A) (f : A → Doing B) (g : B → Doing E) (h : E → Doing F) (f′ : A → Doing C) (g′ : C → Doing D) (h′ : D → Doing F)
-    → ((a : A) (n : Now) → after (after (f a n) g) h ≡ after (after (f′ a n) g′) h′)
-    → after (after (after o f) g) h ≡ after (after (after o f′) g′) h′
-alike₃ (refused r) f g h f′ g′ h′ same = refl
-alike₃ (went a n) f g h f′ g′ h′ same = same a n
-
-never : false ≡ true → ⊥
-never h = let z : _≡_ {A = ℕ} 0 1 = cc in omega arith
-
--- a list by its first: the first of those that start there starts there, so that the rest of its list is the rest
-module _ (c : Chart) where
-  module _ (k s : ℕ) where
-    starts-there : (t : Segment) (a b : Bool) → eqb (sourceKind c t) k ≡ a → eqb (source c t) s ≡ b → a && b ≡ true
-        → later c t ≡ startingFrom c (headerOf c) k s (t + 1)
-    unfolding later
-    starts-there t true true p q h = rw (eqb-true (sourceKind c t) k p, eqb-true (source c t) s q)
-    starts-there t true false p q h = absurd (never h)
-    starts-there t false b p q h = absurd (never h)
-
-    from-here : (n from : ℕ) → headerOf c .segments - from ≡ n → (b : Bool) → startsIn c (headerOf c) k s from ≡ b
-        → listOf c (firstSegment (startingFrom c (headerOf c) k s from)) ≡ startingFrom c (headerOf c) k s from
-    unfolding startingFrom firstSegment listOf
-    from-here zero from q b p = rw (keep-end (startsIn c (headerOf c) k s) from (headerOf c .segments) (omega arith))
-    from-here (suc n) from q true p =
-        rw (keep-pass (startsIn c (headerOf c) k s) from (headerOf c .segments) (omega arith) p)
-        (ap (λ (ts : List Segment). from ∷ ts) (starts-there from _ _ refl refl p))
-    from-here (suc n) from q false p =
-        rw (keep-skip (startsIn c (headerOf c) k s) from (headerOf c .segments) (omega arith) p)
-        (from-here n (from + 1) (omega arith) _ refl)
-
-    pub by-first : (from : ℕ) → listOf c (firstSegment (startingFrom c (headerOf c) k s from)) ≡ startingFrom c (headerOf c) k s from
-    by-first from = from-here _ from refl _ refl
+use Rattle.engine.proofs.Joining.{after-after, after-same}
+use Rattle.engine.proofs.Listing.{list-of-first}
+use Rattle.engine.proofs.Units.{tried-falls}
 
 -- what the code reads of a segment, by the chart's own header
-module _ (c : Chart) (h : Header) (t : Segment) (own : h ≡ headerOf c) where
-  pub next-read : {next : Next}
+module _ (c : Chart) (h : Header) (t : Segment) (is-own : h ≡ headerOf c) where
+  pub rest-by-first : {next : Next}
       → next ≡ firstSegment (startingFrom c h (byte c (segmentPlace h t + 2)) (byte c (segmentPlace h t + 3)) (t + 1))
-      → next ≡ firstSegment (later c t)
+      → listOf c next ≡ later c t
   unfolding later
-  next-read e = rw own at e
+  rest-by-first e = list-of-first c _ _ _ refl (rw is-own at e)
 
   pub kind-read : {b b′ : Bool} → b ≡ eqb (byte c (segmentPlace h t + 4)) 0 → b ≡ b′ → endsOnState c t ≡ b′
-  kind-read e q = sym (rw own at e) ∙ q
+  kind-read e q = sym (rw is-own at e) ∙ q
 
   pub end-read : {j : ℕ} → j ≡ byte c (segmentPlace h t + 5) → j ≡ destination c t
-  end-read e = rw own at e
+  end-read e = rw is-own at e
 
-  pub own-read : {j : ℕ} {next : Next} → next ≡ firstSegment (startingFrom c h 2 j 0) → j ≡ byte c (segmentPlace h t + 5)
-      → next ≡ firstSegment (startingFrom c (headerOf c) 2 (destination c t) 0)
-  own-read e q = rw (own, end-read q) at e
+  pub own-by-first : {j : ℕ} {next : Next} → next ≡ firstSegment (startingFrom c h 2 j 0) → j ≡ byte c (segmentPlace h t + 5)
+      → listOf c next ≡ own c (destination c t)
+  own-by-first e q = list-of-first c _ _ _ refl (rw (is-own, end-read q) at e) ∙ own-own c _
 
 -- a list that is tried, with the path to it and how many more may pass
 record Level : Type 0 where
@@ -104,15 +61,15 @@ record Level : Type 0 where
   path : List Segment
   list : List Segment
 
-less-one : (m : ℕ) → suc m - 1 ≡ m
-less-one m = omega arith
-
 module _ (c : Chart) (n e : ℕ) (s : State) where
+  -- such a list is tried
+  abbrev trying : ℕ → List Segment → List Segment → Doing Found
+  trying m path ts = tries c (send c n) e s (passed c (send c n) e s m path) ts
+
   -- a list, and those that wait below it
   rest : List Level → Doing Found
   rest [] = give nowhere
-  rest (l ∷ ls) =
-      tries c (send c n) e s (passed c (send c n) e s (l .more) (l .path)) (l .list) >>= (λ o. orNext o (rest ls))
+  rest (l ∷ ls) = trying (l .more) (l .path) (l .list) >>= (λ o. orNext o (rest ls))
 
   -- where a segment that passed leads: on a state, to a dead end, or to a junction's list, which is tried first
   leads : ℕ → List Segment → Segment → List Level → Bool → Bool → Doing Found
@@ -127,31 +84,34 @@ module _ (c : Chart) (n e : ℕ) (s : State) where
   onward m path t ls cutOff = give cut
   onward m path t ls told.passed = leads (m - 1) path t ls (endsOnState c t) (eqb (length (own c (destination c t))) 0)
 
-  or-or : (o : Outcome Found) (m k : Doing Found)
-      → after (after o (λ x. orNext x m)) (λ x. orNext x k) ≡ after o (λ x. orNext x (m >>= (λ y. orNext y k)))
+  -- where nothing was found the next list is tried, and the one below it: these two are one
+  or-or : (o : Found) (m k : Doing Found) (now : Now) → after (orNext o m now) (λ x. orNext x k) ≡ orNext o (m >>= (λ x. orNext x k)) now
   unfolding orNext give _>>=_
-  or-or (refused r) m k = refl
-  or-or (went (reached t path) now) m k = refl
-  or-or (went nowhere now) m k = refl
-  or-or (went ended now) m k = refl
-  or-or (went cut now) m k = refl
+  or-or (reached t path) m k now = refl
+  or-or nowhere m k now = refl
+  or-or ended m k now = refl
+  or-or cut m k now = refl
 
   module _ (path : List Segment) (t : Segment) (ts : List Segment) (ls : List Level) where
     abbrev below : ℕ → List Level
     below m = record { more = m; path = path; list = ts } ∷ ls
 
+    -- what the segments after t find, and the lists below, where t finds nothing
+    abbrev orBelow : ℕ → Found → Doing Found
+    orBelow m o now = after (orNext o (trying m path ts) now) (λ x. orNext x (rest ls))
+
     -- the condition action was performed
     acted-ways : (m : ℕ) (r : Ran) (b b′ : Bool) (now : Now)
-        → after (after (unlessAbandoned r cut (λ _.
+        → after (unlessAbandoned r cut (λ _.
         if b then give (reached (destination c t) (path ++ (t ∷ [])))
         else if b′ then give ended
-        else tries c (send c n) e s (passed c (send c n) e s m (path ++ (t ∷ []))) (own c (destination c t))) now)
-        (λ o. orNext o (tries c (send c n) e s (passed c (send c n) e s (suc m) path) ts))) (λ o. orNext o (rest ls))
+        else trying m (path ++ (t ∷ [])) (own c (destination c t))) now) (orBelow (suc m))
         ≡ (if isAbandoned r then give cut else leads m path t (below (suc m)) b b′) now
     unfolding unlessAbandoned isAbandoned if_then_else_ give orNext leads rest _>>=_
     acted-ways m (ran st) true b′ now = refl
     acted-ways m (ran st) false true now = refl
-    acted-ways m (ran st) false false now = or-or (tries c (send c n) e s (passed c (send c n) e s m (path ++ (t ∷ []))) (own c (destination c t)) now) _ _
+    acted-ways m (ran st) false false now =
+        after-same (trying m (path ++ (t ∷ [])) (own c (destination c t)) now) (λ o now₁. or-or o (trying (suc m) path ts) (rest ls) now₁)
     acted-ways m abandoned b b′ now = refl
 
     acted-on : (m : ℕ) (r : Ran) (now : Now)
@@ -161,23 +121,22 @@ module _ (c : Chart) (n e : ℕ) (s : State) where
     acted-on m (ran st) now = rw (less-one m)
     acted-on m abandoned now = refl
 
-    ways : (m : ℕ) (b : Bool) (now : Now)
-        → after (after ((if b then passed c (send c n) e s m path t else give nowhere) now)
-        (λ o. orNext o (tries c (send c n) e s (passed c (send c n) e s m path) ts))) (λ o. orNext o (rest ls))
+    -- it was tested
+    tested-ways : (m : ℕ) (b : Bool) (now : Now)
+        → after ((if b then passed c (send c n) e s m path t else give nowhere) now) (orBelow m)
         ≡ after ((if b then passingWithin c n m s t else give failed) now) (onward m path t (below m))
     unfolding passed passingWithin passing acted if_then_else_ give refuse orNext onward rest _>>=_ _>>_
-    ways m false now = refl
-    ways zero true now = refl
-    ways (suc m) true now =
-        alike₃ (note segmentPassed t now) _ _ _ _ _ _ (λ u now₁.
-        alike₃ (perform (sentBy s (send c n)) [] (code c (conditionAction c t)) now₁) _ _ _ _ _ _ (λ r now₂.
-        acted-ways m r (endsOnState c t) (eqb (length (own c (destination c t))) 0) now₂ ∙ acted-on m r now₂))
+    tested-ways m false now = refl
+    tested-ways zero true now = refl
+    tested-ways (suc m) true now =
+        simp after-after (after-same (note segmentPassed t now) (λ u now₁.
+        after-same (perform (sentBy s (send c n)) [] (code c (conditionAction c t)) now₁) (λ r now₂.
+        acted-ways m r (endsOnState c t) (eqb (length (own c (destination c t))) 0) now₂ ∙ acted-on m r now₂)))
 
     rest-tried : (m : ℕ) (now : Now) → rest (record { more = m; path = path; list = t ∷ ts } ∷ ls) now
         ≡ after (tried c n e s m t now) (onward m path t (below m))
     unfolding rest tries tried tested _>>=_ _>>_
-    rest-tried m now =
-        alike₂ (pay now) _ _ _ _ _ (λ u now₁. alike (passes c e t now₁) _ _ _ _ (λ b now₂. ways m b now₂))
+    rest-tried m now = simp after-after (after-same (pay now) (λ u now₁. after-same (passes c e t now₁) (λ b now₂. tested-ways m b now₂)))
 
   -- the search is the first list with none below it
   nothing-after : (o : Outcome Found) → after o (λ x. orNext x (give nowhere)) ≡ o
@@ -233,28 +192,17 @@ module _ (c : Chart) (n e : ℕ) (s : State) where
     pub falls : 2 * p .left .units + p .length ≤ 2 * p₀ .left .units + p₀ .length
     pub same : toDo p₀ ≡ toDo p
 
-  -- the next of a segment's list begins the rest of it
-  rest-by-first : (t : Segment) {next : Next} → next ≡ firstSegment (later c t) → listOf c next ≡ later c t
-  unfolding later
-  rest-by-first t h = rw h (by-first c _ _ _)
-
-  own-by-first : (t : Segment) {next : Next} → next ≡ firstSegment (startingFrom c (headerOf c) 2 (destination c t) 0)
-      → listOf c next ≡ own c (destination c t)
-  own-by-first t h = rw h (by-first c _ _ _ ∙ own-own c _)
-
   some-there : {next : Next} {t : SegmentNo} → next ≡ next-is.Segment t → eqb (length (listOf c next)) 0 ≡ false
   unfolding listOf
   some-there {t = t} z = rw z (ne-eqb (suc (length (later c (t .0)))) 0 (λ q. omega arith))
 
   -- the list is used up, and the list below it goes on
-  popped : (path : List Segment) (k : ℕ) (now : Now) → (k ≡ 0 → ⊥) → {next : Next} → next ≡ firstSegment (later c (getD path (k - 1) 0))
+  popped : (path : List Segment) (k : ℕ) (now : Now) → (k ≡ 0 → ⊥) → {ts : List Segment} → ts ≡ later c (getD path (k - 1) 0)
       → rest c n e s (record { more = 128 - k; path = take k path; list = [] } ∷ waiting c path k) now
-      ≡ rest c n e s (record { more = 128 - (k - 1); path = take (k - 1) path; list = listOf c next } ∷ waiting c path (k - 1)) now
+      ≡ rest c n e s (record { more = 128 - (k - 1); path = take (k - 1) path; list = ts } ∷ waiting c path (k - 1)) now
   unfolding rest tries waiting give orNext _>>=_
   popped path zero now z h = absurd (z refl)
-  popped path (suc k) now z h =
-      let q : listOf c _ ≡ later c (getD path k 0) = rest-by-first _ (h ∙ rw (less-one k)) in
-      rw (less-one k, q)
+  popped path (suc k) now z h = rw (less-one k, rw (less-one k) at h)
 
   -- a segment goes onto the path
   pushed : (path : List Segment) (k : ℕ) (t : Segment) (ts : List Segment) (now : Now) → k < 128 → length path ≡ 128
@@ -301,7 +249,7 @@ module _ (c : Chart) (n e : ℕ) (s : State) where
       at-end z = sym (still .same ∙ rw (end, z))
 
       -- the list below it goes on
-      pub below-goes-on : (p .length ≡ 0 → ⊥) → {next : Next} → next ≡ firstSegment (later c (getD (p .path) (p .length - 1) 0))
+      pub below-goes-on : (p .length ≡ 0 → ⊥) → {next : Next} → listOf c next ≡ later c (getD (p .path) (p .length - 1) 0)
           → Still p₀ (record { path = p .path; length = p .length - 1; next = next; image = p .image; trace = p .trace; left = p .left })
       unfolding toDo listOf
       below-goes-on z h =
@@ -334,7 +282,7 @@ module _ (c : Chart) (n e : ℕ) (s : State) where
       failed-less w = tried-falls c n e s _ _ .at _ _ _ (sym (rw w at came))
 
       pub tried-failed : {k : Counts} → r ≡ tried-is.Failed k → length im ≡ length (p .image) → length tr ≡ length (p .trace)
-          → {next : Next} → next ≡ firstSegment (later c (t .0))
+          → {next : Next} → listOf c next ≡ later c (t .0)
           → Still p₀ (record { path = p .path; length = p .length; next = next; image = im; trace = tr; left = k })
       unfolding toDo onward
       tried-failed w li lt h =
@@ -346,7 +294,7 @@ module _ (c : Chart) (n e : ℕ) (s : State) where
             short = still .short;
             units = omega (arith, still .units);
             falls = omega (arith, still .falls);
-            same = turned ∙ rw (w, rest-by-first (t .0) h);
+            same = turned ∙ rw (w, h);
           }
 
       -- it passes
@@ -372,10 +320,10 @@ module _ (c : Chart) (n e : ℕ) (s : State) where
 
         -- to a junction
         module _ (b : endsOnState c (t .0) ≡ false) {next : Next}
-            (h : next ≡ firstSegment (startingFrom c (headerOf c) 2 (destination c (t .0)) 0)) where
+            (h : listOf c next ≡ own c (destination c (t .0))) where
           pub passed-ended : next ≡ next-is.End → went ended (nowOf im tr k) ≡ toDo p₀
           unfolding onward leads if_then_else_ give listOf
-          passed-ended z = sym (turned ∙ rw (w, b, sym (own-by-first (t .0) h), z))
+          passed-ended z = sym (turned ∙ rw (w, b, sym h, z))
 
           pub passed-onward : {t′ : SegmentNo} → next ≡ next-is.Segment t′ → length (p₀ .path) ≡ 128
               → length im ≡ length (p .image) → length tr ≡ length (p .trace)
@@ -391,5 +339,5 @@ module _ (c : Chart) (n e : ℕ) (s : State) where
                 short = omega arith;
                 units = omega (arith, still .units);
                 falls = omega (arith, still .falls);
-                same = turned ∙ rw (w, b, sym (own-by-first (t .0) h), some-there z) (pushed (p .path) (p .length) (t .0) (listOf c next) _ v (still .path ∙ l));
+                same = turned ∙ rw (w, b, sym h, some-there z) (pushed (p .path) (p .length) (t .0) (listOf c next) _ v (still .path ∙ l));
               }

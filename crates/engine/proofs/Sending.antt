@@ -1,9 +1,9 @@
--- A segment's condition, a send, and a block that can send, as the code goes: what a refused answer or one that goes on makes
--- of what follows, and what a block has still to perform from an instruction on. Assumes nothing.
+-- A segment's condition, a send, a block that can send, a segment that is tried: one law for each way through the code, and
+-- for a block what is still to perform from an instruction on. Assumes nothing.
 use mathlib.Core.Path.{_≡_, refl, sym, _∙_}
-use mathlib.Core.Bool.{Bool, true, false, _||_}
+use mathlib.Core.Bool.{Bool, true, false, _||_, false≢true}
 use mathlib.Core.Bool as B
-use mathlib.Core.Logic.{_⊎_, ⊎-elim}
+use mathlib.Core.Logic.{_⊎_}
 use mathlib.Core.List.{List, [], _∷_}
 use Prim.Native.Nat.{ℕ, zero, suc, _+_, _-_, _*_, _≤_, _<_, _%_}
 use native.Mathlib.Omega.{arith}
@@ -11,6 +11,7 @@ use lib.Dec.{eqb}
 use lib.ListN.{length, take, drop}
 use lib.IntN.{ℤ}
 use borrow.Author.Tests.{eq-eqb, ne-eqb}
+use denote.Enum.Declared.{tagOf}
 use Rattle.rules.specs.Bytes.{Bytes, byte, isZero, unsigned}
 use Rattle.rules.specs.Lists.{if_then_else_}
 use Rattle.rules.specs.Chart.{Chart, State, Op, Block, Instruction, blockAt, code}
@@ -33,6 +34,7 @@ use Rattle.doing.specs.declared.Done.{Done}
 use Rattle.doing.specs.declared.Done.the-variants.{Refused, Went}
 use Rattle.doing.specs.declared.Verdict.{Verdict}
 use Rattle.doing.specs.declared.Verdict.the-variants as verdict
+use Rattle.doing.proofs.Verdict.{the-type}
 use Rattle.blocks.specs.Stacks.{stackOf, Cells}
 use Rattle.blocks.specs.Performed.{ranOf}
 use Rattle.blocks.specs.declared.instruct.Left.{Left}
@@ -40,46 +42,11 @@ use Rattle.blocks.specs.declared.instruct.Performed.{Performed}
 use Rattle.blocks.specs.declared.instruct.Performed.the-variants as performed
 use Rattle.blocks.specs.Code.{codeIn, instructed, paidFor}
 use Rattle.blocks.proofs.Performing.{code-end, code-step, still-held, part-code}
-use Rattle.rules.proofs.Keeping.{pay-keeps, noSend-keeps, instruct-keeps}
-use Rattle.rules.proofs.Spending.{Spends, fewer, pay-strict, then-spends}
-use Rattle.engine.proofs.Units.{went-falls, no-falls, paidSend-falls}
-use Rattle.doing.proofs.Verdict.{the-type}
-use denote.Enum.Declared.{tagOf}
+use Rattle.moves.proofs.Follows.{less-one}
 use Rattle.engine.specs.Told.{Try, failed, passed, cutOff, isAbandoned, tested, paidSend, acted, passing, passingWithin, tried}
-
--- the first answer: refused, it is told as the answer of all; gone on, it leaves its counts to what follows
-module _ {o : Outcome (Unit {0})} {d : Done} (im : Image) (tr : List ℕ) {A : Type 0} (f : Unit {0} → Doing A)
-    (first : outcomeOf d im tr ≡ o) {all : Outcome A} where
-  pub told-refused : (g : Unit {0} → Doing A) {r : CodeRefusal} → all ≡ after (outcomeOf d im tr) g → d ≡ Refused r
-      → all ≡ after o f
-  told-refused g told w = rw (told, sym first, w)
-
-  pub went-then : {k : Counts} → d ≡ Went k → all ≡ f tt (nowOf im tr k) → all ≡ after o f
-  went-then w next = rw (sym first, w) next
-
--- one unit less
-pub paid-less : (im : Image) (tr : List ℕ) (k : Counts) {d : Done} {k′ : Counts} → outcomeOf d im tr ≡ pay (nowOf im tr k)
-    → d ≡ Went k′ → k′ .units < k .units
-paid-less im tr k told w = went-falls (nowOf im tr k) im tr (record { at = pay-strict }) told w
-
--- a test that is over where it says yes, and one that fails where it says no
-abbrev unlessOver : Doing Bool → Bool → Doing Bool
-unlessOver m b = if b then give true else m
-
-pub over : (v : Verdict) (im : Image) (tr : List ℕ) (m : Doing Bool) {o : Outcome Bool}
-    → (tagOf the-type v ≡ 0) ⊎ (tagOf the-type v ≡ 1) → verdictOf v im tr ≡ o → verdictOf v im tr ≡ after o (unlessOver m)
-unfolding give if_then_else_
-over (verdict.Refused r) im tr m w told = rw (sym told)
-over (verdict.Yes k) im tr m w told = rw (sym told)
-over (verdict.No k) im tr m w told = absurd (⊎-elim (λ z. omega (arith, z)) (λ z. omega (arith, z)) w)
-
-fails : (v : Verdict) (im : Image) (tr : List ℕ) (m : Doing Try) {o : Outcome Bool}
-    → (tagOf the-type v ≡ 0) ⊎ (tagOf the-type v ≡ 2) → verdictOf v im tr ≡ o
-    → after (verdictOf v im tr) (λ _. give failed) ≡ after o (λ b. if b then m else give failed)
-unfolding if_then_else_
-fails (verdict.Refused r) im tr m w told = rw (sym told)
-fails (verdict.Yes k) im tr m w told = absurd (⊎-elim (λ z. omega (arith, z)) (λ z. omega (arith, z)) w)
-fails (verdict.No k) im tr m w told = rw (sym told)
+use Rattle.engine.proofs.Joining.{after-after}
+use Rattle.engine.proofs.Telling.{unlessOver, no-then, over-ends, yes-then, failed-ends}
+use Rattle.engine.proofs.Units.{paidFor-spends, paidSend-falls, no-keeps}
 
 -- the instructions of a block's part of a chart are the block's
 module _ (c : Chart) (h : Header) (k : CodeBlock) (part : Bytes) (own : h ≡ headerOf c)
@@ -89,30 +56,25 @@ module _ (c : Chart) (h : Header) (k : CodeBlock) (part : Bytes) (own : h ≡ he
 
 -- a condition: empty, refused, or by the top of the stack that it leaves
 module _ (c : Chart) (n : Now) where
-  unfoldable conditioned : Block → Outcome Bool
+  unfoldable conditioned : Block → Doing Bool
   conditioned k =
-      if isNone k then went true n
-      else after (perform noSend [] (code c k) n) (λ r. unlessAbandoned r false (λ st. give (B.not (isZero (top st)))))
-
-  holds-by : (b : Bool) (m : Doing Bool) → (if b then give true else m) n ≡ (if b then went true n else m n)
-  unfolding give if_then_else_
-  holds-by true m = refl
-  holds-by false m = refl
+      if isNone k then give true
+      else (perform noSend [] (code c k) >>= (λ r. unlessAbandoned r false (λ st. give (B.not (isZero (top st))))))
 
   module _ (h : Header) (own : h ≡ headerOf c) (t : ℕ) (k : CodeBlock) (is : blockOf k ≡ blockAt c (segmentPlace h t + 9)) where
-    holds-is : conditioned (blockOf k) ≡ holds c t n
-    unfolding conditioned holds _>>=_
-    holds-is = rw (is, own) (sym (holds-by _ _))
+    holds-is : conditioned (blockOf k) n ≡ holds c t n
+    unfolding conditioned holds
+    holds-is = rw (is, own)
 
     pub holds-empty : k .count ≡ 0 → went true n ≡ holds c t n
-    unfolding conditioned isNone if_then_else_
+    unfolding conditioned isNone if_then_else_ give
     holds-empty e = rw (eq-eqb (k .count) 0 e) at holds-is
 
     module _ (some : k .count ≡ 0 → ⊥) (part : Bytes) (cut : part ≡ take (6 * k .count) (drop (instructionPlace h (k .start)) c))
         (v : Performed) (cells : List ℤ) (im : Image) (tr : List ℕ)
         (told : ranOf v cells im tr ≡ perform noSend [] (codeIn part 0 (k .count)) n) where
       holds-run : after (ranOf v cells im tr) (λ r. unlessAbandoned r false (λ st. give (B.not (isZero (top st))))) ≡ holds c t n
-      unfolding conditioned isNone if_then_else_
+      unfolding conditioned isNone if_then_else_ _>>=_
       holds-run = rw (told, part-has c h k part own cut) (rw (ne-eqb (k .count) 0 some) at holds-is)
 
       pub holds-refused : {r : CodeRefusal} → v ≡ performed.Refused r → refused (refusalOf r) ≡ holds c t n
@@ -149,7 +111,7 @@ module _ (c : Chart) (e b : ℕ) (im : Image) (tr : List ℕ) (k : Counts) where
       → run c (send c (n - 1)) e levels b (nowOf im tr k) ≡ send c n e b (nowOf im tr k)
   unfolding send whenActive if_then_else_
   send-runs zero q h = absurd (h refl)
-  send-runs (suc n) q h = let less : suc n - 1 ≡ n = omega arith in rw (q, less)
+  send-runs (suc n) q h = rw (q, less-one n)
 
 -- a send from a block: whether the owner is gone then
 module _ (owner : State) (im : Image) (tr : List ℕ) where
@@ -180,7 +142,7 @@ plain sent op.less i st q = refl
 plain sent op.equal i st q = refl
 plain sent op.not i st q = refl
 plain sent op.raise i st q = refl
-plain sent op.send i st q = let z : _≡_ {A = ℕ} 0 1 = cc in absurd (omega arith)
+plain sent op.send i st q = absurd (false≢true (sym q))
 plain sent op.unknown i st q = refl
 
 sends-only : (o : Op) → isSend o ≡ true → o ≡ op.send
@@ -207,11 +169,6 @@ onward f r = unlessAbandoned r abandoned f
 abbrev answer : Ran → Doing Bool
 answer r = give (isAbandoned r)
 
-after-after : {A B C : Type 0} (o : Outcome A) (f : A → Doing B) (g : B → Doing C) → after (after o f) g ≡ after o (λ a. f a >>= g)
-unfolding _>>=_
-after-after (refused r) f g = refl
-after-after (went a n) f g = refl
-
 module _ (st : Stack) (f : Stack → Doing Ran) where
   abbrev sendEnds : Bool → Doing Ran
   sendEnds b = give (if b then abandoned else ran st)
@@ -231,7 +188,7 @@ module _ (st : Stack) (f : Stack → Doing Ran) where
 module _ (sent : Sent) (i : Instruction) (rest : List Instruction) (st : Stack) (n : Now) where
   plain-then : isSend (i .op) ≡ false
       → perform sent st (i ∷ rest) n ≡ after (paidFor i st n) (onward (λ st′. perform sent st′ rest))
-  unfolding paidFor instructed perform _>>_
+  unfolding paidFor instructed perform _>>_ _>>=_
   plain-then q = rw (plain sent (i .op) i st q) (sym (after-after (pay n) (λ _. instruct noSend (i .op) i st) _))
 
   abbrev itsSend : Doing Bool
@@ -241,10 +198,6 @@ module _ (sent : Sent) (i : Instruction) (rest : List Instruction) (st : Stack) 
       → after (perform sent st (i ∷ rest) n) answer ≡ after ((pay >> itsSend) n) (unlessOver (perform sent st rest >>= answer))
   unfolding perform instruct _>>_
   send-then q = rw (sends-only (i .op) q) (after-paid st (λ st′. perform sent st′ rest) itsSend (pay n))
-
-paidFor-spends : (i : Instruction) (st : Stack) → Spends (paidFor i st)
-unfolding paidFor instructed
-paidFor-spends i st = then-spends (pay-keeps fewer) (instruct-keeps fewer (noSend-keeps fewer) (i .op) i st)
 
 -- what a block has still to perform: the instructions from k on; whether the rest of the owner's run is abandoned then
 unfoldable pub toAct : Sent → Bytes → ℕ → ℕ → Stack → Doing Bool
@@ -299,11 +252,10 @@ module _ (c : Chart) (sends owner : ℕ) where
     module _ (v : Verdict) (im : Image) (tr : List ℕ) (told : verdictOf v im tr ≡ paidSend c sends owner (here part k) n) where
       pub act-sent : {next : Counts} → v ≡ verdict.No next
           → toAct sentFrom part count (k + 1) st (nowOf im tr next) ≡ toAct sentFrom part count k st n
-      unfolding if_then_else_
-      act-sent w = rw (sym told, w) at act-send
+      act-sent w = no-then v im tr _ told w refl ∙ act-send
 
       pub act-over : (tagOf the-type v ≡ 0) ⊎ (tagOf the-type v ≡ 1) → verdictOf v im tr ≡ toAct sentFrom part count k st n
-      act-over w = over v im tr _ w told ∙ act-send
+      act-over w = over-ends v im tr _ told w ∙ act-send
 
 -- a block's loop: what is still to perform is what was to perform at its start, and the cells hold the stack
 pub record Acting (sent : Sent) (part : Bytes) (count : ℕ) (im₀ : Image) (tr₀ : List ℕ) (k₀ : Counts) (at₀ : ℕ) (st₀ : Stack)
@@ -326,7 +278,7 @@ module _ {part : Bytes} {count : ℕ} {im₀ : Image} {tr₀ : List ℕ} {k₀ :
       → Acting (sentFrom c sends owner) part count im₀ tr₀ k₀ at₀ st₀ im′ tr′ k′ (at + 1) cells′ taken′
   acting-sent q {v} told w li lt i t u x y =
       let n = nowOf im tr k in
-      let less = no-falls n im″ tr″ (paidSend-falls c sends owner (here part at)) told w in
+      let less = no-keeps n im″ tr″ (paidSend-falls c sends owner (here part at)) told w in
       rw (i, t, u, x, y)
       (record {
         same = act-sent c sends owner part count at (stackOf cells taken) n more (sym sending ∙ q) v im″ tr″ told w ∙ acting .same;
@@ -369,25 +321,18 @@ module _ (c : Chart) (sends owner t : ℕ) (n : Now) where
 
   module _ (m : ℕ) (some : m ≡ 0 → ⊥) {v : Verdict} (im : Image) (tr : List ℕ)
       (told : verdictOf v im tr ≡ passing c sends owner t n) where
-    pub pass-refused : {r : CodeRefusal} → v ≡ verdict.Refused r → refused (refusalOf r) ≡ passingWithin c sends m owner t n
-    pass-refused w = rw (sym told, w) at (within-path m some)
-
-    pub pass-cut : {k : Counts} → v ≡ verdict.Yes k → went cutOff (nowOf im tr k) ≡ passingWithin c sends m owner t n
-    unfolding give if_then_else_
-    pass-cut w = rw (sym told, w) at (within-path m some)
-
-    pub pass-passed : {k : Counts} → v ≡ verdict.No k → went passed (nowOf im tr k) ≡ passingWithin c sends m owner t n
-    unfolding give if_then_else_
-    pass-passed w = rw (sym told, w) at (within-path m some)
+    pub pass-came : {x : Verdict} → v ≡ x
+        → after (verdictOf x im tr) (λ b. give (if b then cutOff else passed)) ≡ passingWithin c sends m owner t n
+    pass-came w = rw (sym told, w) at (within-path m some)
 
 -- a segment is tried: it fails, or it passes and goes on
 module _ (c : Chart) (sends e owner m t : ℕ) (n : Now) {all : Outcome Try} (im : Image) (tr : List ℕ) where
   pub tried-fails : (v : Verdict) → (tagOf the-type v ≡ 0) ⊎ (tagOf the-type v ≡ 2) → verdictOf v im tr ≡ tested c e t n
       → all ≡ after (verdictOf v im tr) (λ _. give failed) → all ≡ tried c sends e owner m t n
   unfolding tried _>>=_
-  tried-fails v w told is = is ∙ fails v im tr _ w told
+  tried-fails v w told is = is ∙ failed-ends failed v im tr _ told w
 
   pub tried-passes : {v : Verdict} {k : Counts} → v ≡ verdict.Yes k → verdictOf v im tr ≡ tested c e t n
       → all ≡ passingWithin c sends m owner t (nowOf im tr k) → all ≡ tried c sends e owner m t n
-  unfolding tried _>>=_ if_then_else_
-  tried-passes w told is = rw (sym told, w) is
+  unfolding tried _>>=_
+  tried-passes w told is = yes-then failed im tr _ told w is

@@ -1,6 +1,6 @@
 pub mod Bits
 pub mod Tests
 pub mod Sound
-pub mod Beyond
+pub mod Zeros
 pub mod Counting
 pub mod Making

@@ -4,7 +4,6 @@ mod Sends
 mod Searches
 mod Follows
 mod Runs
-use Prim.Native.Nat.{_+_, _-_}
 use Rattle.engine.proofs.cycle.+alone+attempt+block+edge+inside+pass+run+search+send+send_from.{statement}
 use Rattle.engine.proofs.cycle.+alone+attempt+block+edge+inside+pass+run+search+send+send_from.Tie.{close}
 use Rattle.engine.proofs.cycle.alone.Reads as alone

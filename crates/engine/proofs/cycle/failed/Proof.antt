@@ -1,6 +1,6 @@
 -- By the answer's variant: a refusal stays one, and any other answer goes on. Assumes nothing.
-use Rattle.rules.specs.Doing.{give}
 use borrow.Author.Needs.{needs}
+use Rattle.rules.specs.Doing.{give}
 use Rattle.engine.proofs.cycle.failed.Statement.{statement}
 use Rattle.engine.proofs.cycle.failed.Tie as tie
 

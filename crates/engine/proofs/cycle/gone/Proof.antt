@@ -1,6 +1,6 @@
 -- The owner's bit of the image, by the rules. Assumes nothing.
-use Rattle.rules.specs.Block.{gone}
 use borrow.Author.Needs.{needs}
+use Rattle.rules.specs.Block.{gone}
 use Rattle.engine.proofs.cycle.gone.Statement.{statement}
 use Rattle.engine.proofs.cycle.gone.Tie as tie
 

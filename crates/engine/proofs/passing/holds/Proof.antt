@@ -1,12 +1,12 @@
--- The condition's part of the chart has its instructions; it holds by the top of the stack that they leave. Assumes nothing.
+-- The condition's part of a chart has its instructions; it holds by the top of the stack that they leave. Assumes nothing.
+use mathlib.Core.Path.{_∙_}
+use borrow.Author.Needs.{needs}
+use mir.Syntax.{w32}
+use mir.ValLaws.{toZ-ofZ}
 use Rattle.doing.specs.Held.{nowOf}
 use Rattle.blocks.specs.Code.{codeIn}
 use Rattle.blocks.proofs.Performing.{run-held}
 use Rattle.engine.proofs.Sending.{holds-empty, holds-refused, holds-top}
-use mathlib.Core.Path.{_∙_}
-use mir.Syntax.{w32}
-use mir.ValLaws.{toZ-ofZ}
-use borrow.Author.Needs.{needs}
 use Rattle.engine.proofs.passing.holds.Statement.{statement}
 use Rattle.engine.proofs.passing.holds.Tie as tie
 

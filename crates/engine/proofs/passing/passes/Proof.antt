@@ -1,8 +1,9 @@
 -- A unit is paid or not; then the event, and the condition where it is wanted. Assumes nothing.
+use borrow.Author.Needs.{needs}
 use Rattle.rules.specs.Doing.{_>>_}
 use Rattle.engine.specs.Told.{tested}
-use Rattle.engine.proofs.Sending.{told-refused, went-then, passes-on, passes-off}
-use borrow.Author.Needs.{needs}
+use Rattle.engine.proofs.Telling.{told-refused, went-then}
+use Rattle.engine.proofs.Sending.{passes-on, passes-off}
 use Rattle.engine.proofs.passing.passes.Statement.{statement}
 use Rattle.engine.proofs.passing.passes.Tie as tie
 

@@ -1,13 +1,16 @@
--- An edge of a state, and a state run by itself: each way through by the laws of Following. Assumes nothing.
-use Prim.Native.Nat.{ℕ, _-_}
-use mathlib.Core.Path.{_∙_}
+-- An edge of a state, and a state run by itself: each way through by the laws of Telling and Following. Assumes nothing.
+use mathlib.Core.Path.{sym, _∙_}
+use Prim.Native.Nat.{ℕ}
+use native.Mathlib.Omega.{arith}
+use lib.Seq.{length-take-le}
 use borrow.Author.Needs.{needs}
-use Rattle.rules.specs.Doing.{_>>=_, _>>_, duringPoint}
+use Rattle.rules.specs.Doing.{give, _>>=_, _>>_, duringPoint}
 use Rattle.rules.proofs.Spending.{note-spends}
 use Rattle.doing.proofs.Laws.{as-noted}
-use Rattle.engine.specs.Told.{followed, insideAlone, runAlone}
-use Rattle.engine.proofs.Following.{told-refused, went-then, over-ends, no-then, search-refused, search-nowhere, search-ended, search-cut, search-fired, way-within, part-length, outer-edge-falls, inside-falls, during-falls, inner-edge-falls, acted-there, pay-falls, outer-followed, inner-followed}
-use Rattle.engine.proofs.Units.{went-spends, went-falls, no-spends, acted-spends, followed-spends}
+use Rattle.engine.specs.Told.{ending, followed, insideAlone, runAlone}
+use Rattle.engine.proofs.Telling.{told-refused, went-then, paid-less, no-then, over-ends}
+use Rattle.engine.proofs.Following.{outer-followed, inner-followed, search-came, search-fired, way-within}
+use Rattle.engine.proofs.Units.{acted-spends, followed-spends, went-keeps, no-keeps}
 use Rattle.engine.proofs.cycle.alone.Reads as alone
 use Rattle.engine.proofs.cycle.+alone+attempt+block+edge+inside+pass+run+search+send+send_from.Lts-alone as alone-lts
 use Rattle.engine.proofs.cycle.edge.Reads as edge
@@ -41,7 +44,7 @@ pub edge-array-share-prefix-path : (t : ℕ) → edge-lts.Need-array-share-prefi
 edge-array-share-prefix-path t c = way-within (c .before .before .before .before .before .before .before .before .before .before .before .search .last .1 .1 .1 .1 .0) (c .before .before .before .before .before .before .before .before .before .before .before .search .ensures .1) (c .before .before .before .before .found5 .given .1) (c .before .before .before .before .before .before .before .before .before .before .before .search .kept .1 .1 .1 .1 .0)
 
 pub edge-slice-aggregate-fire : (t : ℕ) → edge-lts.Need-slice-aggregate-fire (edge-calls t) (edge-at t) edge.Post
-edge-slice-aggregate-fire t c = part-length _ _ (way-within (c .before .before .before .before .before .before .before .before .before .before .before .before .search .last .1 .1 .1 .1 .0) (c .before .before .before .before .before .before .before .before .before .before .before .before .search .ensures .1) (c .before .before .before .before .before .found5 .given .1) (c .before .before .before .before .before .before .before .before .before .before .before .before .search .kept .1 .1 .1 .1 .0))
+edge-slice-aggregate-fire t c = sym (length-take-le _ _ (way-within (c .before .before .before .before .before .before .before .before .before .before .before .before .search .last .1 .1 .1 .1 .0) (c .before .before .before .before .before .before .before .before .before .before .before .before .search .ensures .1) (c .before .before .before .before .before .found5 .given .1) (c .before .before .before .before .before .before .before .before .before .before .before .before .search .kept .1 .1 .1 .1 .0)))
 
 pub edge-fire-requires : (t : ℕ) → edge-lts.Need-fire-requires (edge-calls t) (edge-at t) edge.Post
 edge-fire-requires t c κs = search needs
@@ -56,8 +59,8 @@ pub edge-same-length-2 : (t : ℕ) → edge-lts.Need-same-length-2 (edge-calls t
 edge-same-length-2 t c = search needs
 
 pub edge-returns : (t : ℕ) → edge-lts.Need-returns (edge-calls t) (edge-at t) edge.Post
-unfolding followed _>>=_
-edge-returns t c = search-refused _ _ _ _ (c .before .before .before .before .before .before .before .before .search .last .1 .1 .1 .1 .0) (c .before .before .before .before .before .before .before .before .search .last .1 .1 .0) (c .before .before .before .before .before .before .before .before .search .last .1 .1 .1 .0) (c .before .before .before .before .before .before .before .before .search .ensures .0) (c .before .found .given .1)
+unfolding followed ending give _>>=_
+edge-returns t c = search-came _ (c .before .before .before .before .before .before .before .before .before .before .before .before .before .before .before .args .sends) (c .before .before .before .before .before .before .before .before .before .before .before .before .before .before .before .args .event) _ (c .before .before .before .before .before .before .before .before .search .last .1 .1 .1 .1 .0) (c .before .before .before .before .before .before .before .before .search .last .1 .1 .0) (c .before .before .before .before .before .before .before .before .search .last .1 .1 .1 .0) (c .before .before .before .before .before .before .before .before .search .ensures .0) (c .before .found .given .1)
 
 pub edge-same-length-3 : (t : ℕ) → edge-lts.Need-same-length-3 (edge-calls t) (edge-at t) edge.Post
 edge-same-length-3 t c = search needs
@@ -66,8 +69,8 @@ pub edge-same-length-4 : (t : ℕ) → edge-lts.Need-same-length-4 (edge-calls t
 edge-same-length-4 t c = search needs
 
 pub edge-returns-2 : (t : ℕ) → edge-lts.Need-returns-2 (edge-calls t) (edge-at t) edge.Post
-unfolding followed _>>=_
-edge-returns-2 t c = search-nowhere _ _ _ _ (c .before .before .before .before .before .before .before .before .search .last .1 .1 .1 .1 .0) (c .before .before .before .before .before .before .before .before .search .last .1 .1 .0) (c .before .before .before .before .before .before .before .before .search .last .1 .1 .1 .0) (c .before .before .before .before .before .before .before .before .search .ensures .0) (c .before .found2 .given .1)
+unfolding followed ending give _>>=_
+edge-returns-2 t c = search-came _ (c .before .before .before .before .before .before .before .before .before .before .before .before .before .before .before .args .sends) (c .before .before .before .before .before .before .before .before .before .before .before .before .before .before .before .args .event) _ (c .before .before .before .before .before .before .before .before .search .last .1 .1 .1 .1 .0) (c .before .before .before .before .before .before .before .before .search .last .1 .1 .0) (c .before .before .before .before .before .before .before .before .search .last .1 .1 .1 .0) (c .before .before .before .before .before .before .before .before .search .ensures .0) (c .before .found2 .given .1)
 
 pub edge-same-length-5 : (t : ℕ) → edge-lts.Need-same-length-5 (edge-calls t) (edge-at t) edge.Post
 edge-same-length-5 t c = search needs
@@ -76,8 +79,8 @@ pub edge-same-length-6 : (t : ℕ) → edge-lts.Need-same-length-6 (edge-calls t
 edge-same-length-6 t c = search needs
 
 pub edge-returns-3 : (t : ℕ) → edge-lts.Need-returns-3 (edge-calls t) (edge-at t) edge.Post
-unfolding followed _>>=_
-edge-returns-3 t c = search-ended _ _ _ _ (c .before .before .before .before .before .before .before .before .search .last .1 .1 .1 .1 .0) (c .before .before .before .before .before .before .before .before .search .last .1 .1 .0) (c .before .before .before .before .before .before .before .before .search .last .1 .1 .1 .0) (c .before .before .before .before .before .before .before .before .search .ensures .0) (c .before .found3 .given .1)
+unfolding followed ending give _>>=_
+edge-returns-3 t c = search-came _ (c .before .before .before .before .before .before .before .before .before .before .before .before .before .before .before .args .sends) (c .before .before .before .before .before .before .before .before .before .before .before .before .before .before .before .args .event) _ (c .before .before .before .before .before .before .before .before .search .last .1 .1 .1 .1 .0) (c .before .before .before .before .before .before .before .before .search .last .1 .1 .0) (c .before .before .before .before .before .before .before .before .search .last .1 .1 .1 .0) (c .before .before .before .before .before .before .before .before .search .ensures .0) (c .before .found3 .given .1)
 
 pub edge-same-length-7 : (t : ℕ) → edge-lts.Need-same-length-7 (edge-calls t) (edge-at t) edge.Post
 edge-same-length-7 t c = search needs
@@ -86,8 +89,8 @@ pub edge-same-length-8 : (t : ℕ) → edge-lts.Need-same-length-8 (edge-calls t
 edge-same-length-8 t c = search needs
 
 pub edge-returns-4 : (t : ℕ) → edge-lts.Need-returns-4 (edge-calls t) (edge-at t) edge.Post
-unfolding followed _>>=_
-edge-returns-4 t c = search-cut _ _ _ _ (c .before .before .before .before .before .before .before .before .search .last .1 .1 .1 .1 .0) (c .before .before .before .before .before .before .before .before .search .last .1 .1 .0) (c .before .before .before .before .before .before .before .before .search .last .1 .1 .1 .0) (c .before .before .before .before .before .before .before .before .search .ensures .0) (c .before .found4 .given .1)
+unfolding followed ending give _>>=_
+edge-returns-4 t c = search-came _ (c .before .before .before .before .before .before .before .before .before .before .before .before .before .before .before .args .sends) (c .before .before .before .before .before .before .before .before .before .before .before .before .before .before .before .args .event) _ (c .before .before .before .before .before .before .before .before .search .last .1 .1 .1 .1 .0) (c .before .before .before .before .before .before .before .before .search .last .1 .1 .0) (c .before .before .before .before .before .before .before .before .search .last .1 .1 .1 .0) (c .before .before .before .before .before .before .before .before .search .ensures .0) (c .before .found4 .given .1)
 
 pub edge-same-length-9 : (t : ℕ) → edge-lts.Need-same-length-9 (edge-calls t) (edge-at t) edge.Post
 edge-same-length-9 t c = search needs
@@ -119,13 +122,13 @@ inside-same-length t c = search needs
 
 pub inside-returns : (t : ℕ) → inside-lts.Need-returns (inside-calls t) (inside-at t) inside.Post
 unfolding insideAlone _>>_
-inside-returns t c = told-refused _ _ _ (as-noted duringPoint _ _ (c .before .before .before .before .before .before .during .ensures) (c .before .before .before .before .before .note .ensures (c .before .before .before .before .before .before .before .before .before .before .before .args .image .now))) (c .before .enum-told .given .1) _ (c .told .ensures (c .before .before .before .before .before .before .before .before .before .before .before .args .image .now) (c .before .before .before .before .before .note .last .0))
+inside-returns t c = told-refused _ _ _ (as-noted duringPoint _ _ (c .before .before .before .before .before .before .during .ensures) (c .before .before .before .before .before .note .ensures (c .before .before .before .before .before .before .before .before .before .before .before .args .image .now))) _ (c .told .ensures (c .before .before .before .before .before .before .before .before .before .before .before .args .image .now) (c .before .before .before .before .before .note .last .0)) (c .before .enum-told .given .1)
 
 pub inside-during-requires-2 : (t : ℕ) → inside-lts.Need-during-requires-2 (inside-calls t) (inside-at t) inside.Post
 inside-during-requires-2 t c κs = search needs
 
 pub inside-block-requires : (t : ℕ) → inside-lts.Need-block-requires (inside-calls t) (inside-at t) inside.Post
-inside-block-requires t c κs = (during-falls (c .before .before .before .before .before .before .before .before .before .before .before .before .before .before .pre .0) (went-spends _ _ _ (note-spends _ _) (as-noted duringPoint _ _ (c .before .before .before .before .before .before .before .before .before .during .ensures) (c .before .before .before .before .before .before .before .before .note .ensures (c .before .before .before .before .before .before .before .before .before .before .before .before .before .before .args .image .now))) (c .before .before .before .before .noted .given .1)), c .before .before .before .before .before .before .before .before .before .before .before .before .before .before .pre .1)
+inside-block-requires t c κs = (omega (arith, went-keeps _ _ _ (note-spends _ _) (as-noted duringPoint _ _ (c .before .before .before .before .before .before .before .before .before .during .ensures) (c .before .before .before .before .before .before .before .before .note .ensures (c .before .before .before .before .before .before .before .before .before .before .before .before .before .before .args .image .now))) (c .before .before .before .before .noted .given .1), c .before .before .before .before .before .before .before .before .before .before .before .before .before .before .pre .0), c .before .before .before .before .before .before .before .before .before .before .before .before .before .before .pre .1)
 
 pub inside-enum-known-acted : (t : ℕ) → inside-lts.Need-enum-known-acted (inside-calls t) (inside-at t) inside.Post
 inside-enum-known-acted t c = search needs
@@ -140,14 +143,14 @@ pub inside-returns-2 : (t : ℕ) → inside-lts.Need-returns-2 (inside-calls t) 
 unfolding insideAlone _>>_ _>>=_
 inside-returns-2 t c =
     went-then _ _ _ (as-noted duringPoint _ _ (c .before .before .before .before .before .before .before .before .before .before .before .before .before .before .before .during .ensures) (c .before .before .before .before .before .before .before .before .before .before .before .before .before .before .note .ensures (c .before .before .before .before .before .before .before .before .before .before .before .before .before .before .before .before .before .before .before .before .args .image .now))) (c .before .before .before .before .before .before .before .before .before .before .noted .given .1)
-    (over-ends (c .before .before .before .before .before .block .result) (c .before .before .before .before .before .block .last .1 .1 .0) (c .before .before .before .before .before .block .last .1 .1 .1 .0) _ (acted-there _ _ _ _ (c .before .before .before .before .before .before .during2 .ensures) (c .before .before .before .before .before .block .ensures)) (c .match2 .keys2))
+    (over-ends (c .before .before .before .before .before .block .result) (c .before .before .before .before .before .block .last .1 .1 .0) (c .before .before .before .before .before .block .last .1 .1 .1 .0) _ (rw (c .before .before .before .before .before .before .during2 .ensures) at (c .before .before .before .before .before .block .ensures)) (c .match2 .keys2))
 
 pub inside-inner-requires : (t : ℕ) → inside-lts.Need-inner-requires (inside-calls t) (inside-at t) inside.Post
 inside-inner-requires t c κs = search needs
 
 pub inside-edge-requires : (t : ℕ) → inside-lts.Need-edge-requires (inside-calls t) (inside-at t) inside.Post
 inside-edge-requires t c κs =
-    (inner-edge-falls (c .before .before .before .before .before .before .before .before .before .before .before .before .before .before .before .before .before .before .before .before .before .before .before .before .before .pre .0) (went-spends _ _ _ (note-spends _ _) (as-noted duringPoint _ _ (c .before .before .before .before .before .before .before .before .before .before .before .before .before .before .before .before .before .before .before .before .during .ensures) (c .before .before .before .before .before .before .before .before .before .before .before .before .before .before .before .before .before .before .before .note .ensures (c .before .before .before .before .before .before .before .before .before .before .before .before .before .before .before .before .before .before .before .before .before .before .before .before .before .args .image .now))) (c .before .before .before .before .before .before .before .before .before .before .before .before .before .before .before .noted .given .1)) (no-spends _ _ _ (acted-spends _ _ _ _) (c .before .before .before .before .before .before .before .before .before .before .block .ensures) (c .before .before .before .before .acted .given .1)), c .before .before .before .before .before .before .before .before .before .before .before .before .before .before .before .before .before .before .before .before .before .before .before .before .before .pre .1)
+    (omega (arith, went-keeps _ _ _ (note-spends _ _) (as-noted duringPoint _ _ (c .before .before .before .before .before .before .before .before .before .before .before .before .before .before .before .before .before .before .before .before .during .ensures) (c .before .before .before .before .before .before .before .before .before .before .before .before .before .before .before .before .before .before .before .note .ensures (c .before .before .before .before .before .before .before .before .before .before .before .before .before .before .before .before .before .before .before .before .before .before .before .before .before .args .image .now))) (c .before .before .before .before .before .before .before .before .before .before .before .before .before .before .before .noted .given .1), no-keeps _ _ _ (acted-spends _ _ _ _) (c .before .before .before .before .before .before .before .before .before .before .block .ensures) (c .before .before .before .before .acted .given .1), c .before .before .before .before .before .before .before .before .before .before .before .before .before .before .before .before .before .before .before .before .before .before .before .before .before .pre .0), c .before .before .before .before .before .before .before .before .before .before .before .before .before .before .before .before .before .before .before .before .before .before .before .before .before .pre .1)
 
 pub inside-same-length-4 : (t : ℕ) → inside-lts.Need-same-length-4 (inside-calls t) (inside-at t) inside.Post
 inside-same-length-4 t c = search needs
@@ -159,7 +162,7 @@ pub inside-returns-3 : (t : ℕ) → inside-lts.Need-returns-3 (inside-calls t) 
 unfolding insideAlone _>>_ _>>=_
 inside-returns-3 t c =
     went-then _ _ _ (as-noted duringPoint _ _ (c .before .before .before .before .before .before .before .before .before .before .before .before .before .before .before .before .before .before .before .before .before .before .before .before .before .during .ensures) (c .before .before .before .before .before .before .before .before .before .before .before .before .before .before .before .before .before .before .before .before .before .before .before .before .note .ensures (c .before .before .before .before .before .before .before .before .before .before .before .before .before .before .before .before .before .before .before .before .before .before .before .before .before .before .before .before .before .before .args .image .now))) (c .before .before .before .before .before .before .before .before .before .before .before .before .before .before .before .before .before .before .before .before .noted .given .1)
-    (no-then _ _ _ _ (acted-there _ _ _ _ (c .before .before .before .before .before .before .before .before .before .before .before .before .before .before .before .before .during2 .ensures) (c .before .before .before .before .before .before .before .before .before .before .before .before .before .before .before .block .ensures)) (c .before .before .before .before .before .before .before .before .before .acted .given .1) (inner-followed _ _ _ _ _ (c .before .before .before .before .before .before .before .before .before .before .before .before .before .before .before .before .before .before .before .before .before .before .before .before .before .before .before .before .before .before .pre .1) (c .before .before .before .before .edge .ensures) (c .before .before .before .before .before .before .before .inner .ensures)))
+    (no-then _ _ _ _ (rw (c .before .before .before .before .before .before .before .before .before .before .before .before .before .before .before .before .during2 .ensures) at (c .before .before .before .before .before .before .before .before .before .before .before .before .before .before .before .block .ensures)) (c .before .before .before .before .before .before .before .before .before .acted .given .1) (inner-followed _ _ _ _ _ (c .before .before .before .before .before .before .before .before .before .before .before .before .before .before .before .before .before .before .before .before .before .before .before .before .before .before .before .before .before .before .pre .1) (c .before .before .before .before .edge .ensures) (c .before .before .before .before .before .before .before .inner .ensures)))
 
 pub alone-pay-requires : (t : ℕ) → alone-lts.Need-pay-requires (alone-calls t) (alone-at t) alone.Post
 alone-pay-requires t c κs = search needs
@@ -175,13 +178,13 @@ alone-told-requires t c κs = search needs
 
 pub alone-returns : (t : ℕ) → alone-lts.Need-returns (alone-calls t) (alone-at t) alone.Post
 unfolding runAlone _>>_
-alone-returns t c = told-refused _ _ _ (c .before .before .before .pay .ensures (c .before .before .before .before .before .before .before .args .image .now) (c .before .before .before .before .before .before .before .args .trace .now)) (c .before .enum-told .given .1) _ (c .told .ensures (c .before .before .before .before .before .before .before .args .image .now) (c .before .before .before .before .before .before .before .args .trace .now))
+alone-returns t c = told-refused _ _ _ (c .before .before .before .pay .ensures (c .before .before .before .before .before .before .before .args .image .now) (c .before .before .before .before .before .before .before .args .trace .now)) _ (c .told .ensures (c .before .before .before .before .before .before .before .args .image .now) (c .before .before .before .before .before .before .before .args .trace .now)) (c .before .enum-told .given .1)
 
 pub alone-outer-requires : (t : ℕ) → alone-lts.Need-outer-requires (alone-calls t) (alone-at t) alone.Post
 alone-outer-requires t c κs = search needs
 
 pub alone-edge-requires : (t : ℕ) → alone-lts.Need-edge-requires (alone-calls t) (alone-at t) alone.Post
-alone-edge-requires t c κs = (outer-edge-falls (c .before .before .before .before .before .before .before .before .before .before .pre .0) (went-falls _ _ _ pay-falls (c .before .before .before .before .before .before .pay .ensures (c .before .before .before .before .before .before .before .before .before .before .args .image .now) (c .before .before .before .before .before .before .before .before .before .before .args .trace .now)) (c .before .before .before .before .paid .given .1)), c .before .before .before .before .before .before .before .before .before .before .pre .1)
+alone-edge-requires t c κs = (omega (arith, paid-less _ _ _ (c .before .before .before .before .before .before .pay .ensures (c .before .before .before .before .before .before .before .before .before .before .args .image .now) (c .before .before .before .before .before .before .before .before .before .before .args .trace .now)) (c .before .before .before .before .paid .given .1), c .before .before .before .before .before .before .before .before .before .before .pre .0), c .before .before .before .before .before .before .before .before .before .before .pre .1)
 
 pub alone-enum-known-followed : (t : ℕ) → alone-lts.Need-enum-known-followed (alone-calls t) (alone-at t) alone.Post
 alone-enum-known-followed t c = search needs
@@ -200,7 +203,7 @@ alone-returns-2 t c =
 
 pub alone-inside-requires : (t : ℕ) → alone-lts.Need-inside-requires (alone-calls t) (alone-at t) alone.Post
 alone-inside-requires t c κs =
-    (inside-falls (c .before .before .before .before .before .before .before .before .before .before .before .before .before .before .before .before .before .before .before .before .pre .0) (went-falls _ _ _ pay-falls (c .before .before .before .before .before .before .before .before .before .before .before .before .before .before .before .before .pay .ensures (c .before .before .before .before .before .before .before .before .before .before .before .before .before .before .before .before .before .before .before .before .args .image .now) (c .before .before .before .before .before .before .before .before .before .before .before .before .before .before .before .before .before .before .before .before .args .trace .now)) (c .before .before .before .before .before .before .before .before .before .before .before .before .before .before .paid .given .1)) (no-spends _ _ _ (followed-spends _ _ _ _ _) (c .before .before .before .before .before .before .before .before .before .edge .ensures) (c .before .before .before .followed .given .1)), c .before .before .before .before .before .before .before .before .before .before .before .before .before .before .before .before .before .before .before .before .pre .1)
+    (omega (arith, paid-less _ _ _ (c .before .before .before .before .before .before .before .before .before .before .before .before .before .before .before .before .pay .ensures (c .before .before .before .before .before .before .before .before .before .before .before .before .before .before .before .before .before .before .before .before .args .image .now) (c .before .before .before .before .before .before .before .before .before .before .before .before .before .before .before .before .before .before .before .before .args .trace .now)) (c .before .before .before .before .before .before .before .before .before .before .before .before .before .before .paid .given .1), no-keeps _ _ _ (followed-spends _ _ _ _ _) (c .before .before .before .before .before .before .before .before .before .edge .ensures) (c .before .before .before .followed .given .1), c .before .before .before .before .before .before .before .before .before .before .before .before .before .before .before .before .before .before .before .before .pre .0), c .before .before .before .before .before .before .before .before .before .before .before .before .before .before .before .before .before .before .before .before .pre .1)
 
 pub alone-same-length-3 : (t : ℕ) → alone-lts.Need-same-length-3 (alone-calls t) (alone-at t) alone.Post
 alone-same-length-3 t c = search needs

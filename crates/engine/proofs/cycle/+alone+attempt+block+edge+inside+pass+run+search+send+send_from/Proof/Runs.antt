@@ -1,8 +1,7 @@
 -- The walk over what is active: what is still to do is what was to do, by the laws of Running. Assumes nothing.
-use Prim.Native.Nat.{ℕ, _-_}
-use borrow.Fn.PlainCycle.{is}
 use mathlib.Core.Path.{sym, ap, _∙_}
 use mathlib.Core.Logic.{⊎-elim}
+use Prim.Native.Nat.{ℕ}
 use borrow.Author.Needs.{needs}
 use Rattle.engine.specs.Turns.{turnOf}
 use Rattle.engine.proofs.Running.{Runs, runs-start, runs-refused, Between, between-over, between-on, runs-over, runs-next}

@@ -1,11 +1,10 @@
 -- The search: both loops keep what is still to do, and a way out of them is one of the laws of Searching. Assumes nothing.
-use Prim.Native.Nat.{ℕ, _+_, _*_, _-_}
-use borrow.Fn.PlainCycle.{falls}
 use mathlib.Core.Path.{_∙_}
-use borrow.Author.Needs.{needs}
-use Rattle.engine.proofs.Searching.{Still, still-start, still-within, starts, next-read, kind-read, end-read, own-read, at-end, below-goes-on, tried-refused, tried-cut, failed-less, tried-failed, passed-less, passed-short, passed-within, passed-reached, passed-ended, passed-onward}
+use Prim.Native.Nat.{ℕ, _+_, _*_}
 use native.Mathlib.Omega.{arith}
 use lib.ListN.{length-set}
+use borrow.Author.Needs.{needs}
+use Rattle.engine.proofs.Searching.{Still, still-start, still-within, starts, rest-by-first, kind-read, end-read, own-by-first, at-end, below-goes-on, tried-refused, tried-cut, failed-less, tried-failed, passed-less, passed-short, passed-within, passed-reached, passed-ended, passed-onward}
 use Rattle.engine.proofs.cycle.search.Reads as search′
 use Rattle.engine.proofs.cycle.+alone+attempt+block+edge+inside+pass+run+search+send+send_from.Lts-search as search-lts
 use Rattle.engine.proofs.cycle.+alone+attempt+block+edge+inside+pass+run+search+send+send_from.Proof.Shared.{search-at, search-calls}
@@ -19,9 +18,7 @@ abbrev pub search-μ-loop : search-lts.MeasureT-loop
 search-μ-loop chart h image₀ trace₀ path₀ sends event source left₀ length₀ next₀ image trace path left length next = left .units
 
 abbrev pub search-Inv-search : search-lts.InvT-search
-search-Inv-search chart h image₀ trace₀ path₀ sends event source left₀ length₀ next₀ image trace path left length next = Still chart sends event (source .0)
-    (record { path = path₀; length = length₀; next = next₀; image = image₀; trace = trace₀; left = left₀ })
-    (record { path = path; length = length; next = next; image = image; trace = trace; left = left })
+search-Inv-search = search-Inv-loop
 
 abbrev pub search-μ-search : search-lts.MeasureT-search
 search-μ-search chart h image₀ trace₀ path₀ sends event source left₀ length₀ next₀ image trace path left length next = 2 * left .units + length
@@ -58,7 +55,7 @@ search-loop-less t c = failed-less _ _ _ _ (c .before .before .before .before .b
 
 pub search-loop-again : (t : ℕ) → search-lts.Need-loop-again (search-calls t) (search-at t) search′.Post search-Inv-loop search-μ-loop search-Inv-search search-μ-search
 search-loop-again t c = tried-failed _ _ _ _ (c .before .before .before .before .before .before .before .before .before .before .before .before .before .before .loop .inv) (c .before .before .before .before .before .before .before .before .before .before .before .before .next .given .1) _ _ _ (c .before .before .before .before .before .before .before .before .attempt .ensures) (c .before .before .tried3 .given .1) (c .before .before .before .before .before .before .before .before .attempt .kept .1 .1 .0) (c .before .before .before .before .before .before .before .before .attempt .kept .1 .1 .1 .0)
-    (next-read _ _ _ (c .before .before .before .before .before .before .before .before .before .before .before .before .before .before .before .before .before .before .before .before .pre .1 .0) (c .after .ensures))
+    (rest-by-first _ _ _ (c .before .before .before .before .before .before .before .before .before .before .before .before .before .before .before .before .before .before .before .before .pre .1 .0) (c .after .ensures))
 
 pub search-enum-known-tried-4 : (t : ℕ) → search-lts.Need-enum-known-tried-4 (search-calls t) (search-at t) search′.Post search-Inv-loop search-μ-loop search-Inv-search search-μ-search
 search-enum-known-tried-4 t c = search needs
@@ -95,7 +92,7 @@ search-loop-less-2 t c = passed-less _ _ _ _ (c .before .before .before .before 
 
 pub search-loop-again-2 : (t : ℕ) → search-lts.Need-loop-again-2 (search-calls t) (search-at t) search′.Post search-Inv-loop search-μ-loop search-Inv-search search-μ-search
 search-loop-again-2 t c = passed-onward _ _ _ _ (c .before .before .before .before .before .before .before .before .before .before .before .before .before .before .before .before .before .before .before .loop .inv) (c .before .before .before .before .before .before .before .before .before .before .before .before .before .before .before .before .before .next .given .1) _ _ _ (c .before .before .before .before .before .before .before .before .before .before .before .before .before .attempt .ensures) (c .before .before .before .before .before .before .before .tried4 .given .1) (kind-read (c .before .before .before .before .before .before .before .before .before .before .before .before .before .before .before .before .before .before .before .before .before .before .before .before .before .args .chart .now) _ (c .before .before .before .before .before .before .before .before .before .before .before .before .before .before .before .before .before .next .given .0 .0 .0) (c .before .before .before .before .before .before .before .before .before .before .before .before .before .before .before .before .before .before .before .before .before .before .before .before .before .pre .1 .0) (c .before .before .before .before .before .ends-on-state .ensures) (c .before .before .before .before .if1 .left))
-    (own-read (c .before .before .before .before .before .before .before .before .before .before .before .before .before .before .before .before .before .before .before .before .before .before .before .before .before .args .chart .now) _ (c .before .before .before .before .before .before .before .before .before .before .before .before .before .before .before .before .before .next .given .0 .0 .0) (c .before .before .before .before .before .before .before .before .before .before .before .before .before .before .before .before .before .before .before .before .before .before .before .before .before .pre .1 .0) (c .before .before .own .ensures) (c .before .before .before .end-junction .ensures)) (c .enum-told3 .given .1) (c .before .before .before .before .before .before .before .before .before .before .before .before .before .before .before .before .before .before .before .before .search .inv .path ∙ c .before .before .before .before .before .before .before .before .before .before .before .before .before .before .before .before .before .before .before .before .before .before .before .before .before .pre .1 .1)
+    (own-by-first (c .before .before .before .before .before .before .before .before .before .before .before .before .before .before .before .before .before .before .before .before .before .before .before .before .before .args .chart .now) _ (c .before .before .before .before .before .before .before .before .before .before .before .before .before .before .before .before .before .next .given .0 .0 .0) (c .before .before .before .before .before .before .before .before .before .before .before .before .before .before .before .before .before .before .before .before .before .before .before .before .before .pre .1 .0) (c .before .before .own .ensures) (c .before .before .before .end-junction .ensures)) (c .enum-told3 .given .1) (c .before .before .before .before .before .before .before .before .before .before .before .before .before .before .before .before .before .before .before .before .search .inv .path ∙ c .before .before .before .before .before .before .before .before .before .before .before .before .before .before .before .before .before .before .before .before .before .before .before .before .before .pre .1 .1)
     (c .before .before .before .before .before .before .before .before .before .before .before .before .before .attempt .kept .1 .1 .0) (c .before .before .before .before .before .before .before .before .before .before .before .before .before .attempt .kept .1 .1 .1 .0)
 
 pub search-sub-length : (t : ℕ) → search-lts.Need-sub-length (search-calls t) (search-at t) search′.Post search-Inv-loop search-μ-loop search-Inv-search search-μ-search
@@ -115,7 +112,7 @@ search-search-less t c = omega (arith, c .before .before .before .before .before
 
 pub search-search-again : (t : ℕ) → search-lts.Need-search-again (search-calls t) (search-at t) search′.Post search-Inv-loop search-μ-loop search-Inv-search search-μ-search
 search-search-again t c = let still = still-within _ _ _ _ (c .before .before .before .before .before .before .search .inv) (c .before .before .before .before .before .loop .inv) in
-    below-goes-on _ _ _ _ still (c .before .before .before .enum-told .given .1) (c .before .before .if2 .left) (next-read _ _ _ (c .before .before .before .before .before .before .before .before .before .before .before .pre .1 .0) (c .after2 .ensures))
+    below-goes-on _ _ _ _ still (c .before .before .before .enum-told .given .1) (c .before .before .if2 .left) (rest-by-first _ _ _ (c .before .before .before .before .before .before .before .before .before .before .before .pre .1 .0) (c .after2 .ensures))
 
 pub search-same-length : (t : ℕ) → search-lts.Need-same-length (search-calls t) (search-at t) search′.Post search-Inv-loop search-μ-loop search-Inv-search search-μ-search
 search-same-length t c = search needs
@@ -171,7 +168,7 @@ search-same-length-12 t c = length-set (c .before .before .before .before .befor
 pub search-returns-4 : (t : ℕ) → search-lts.Need-returns-4 (search-calls t) (search-at t) search′.Post search-Inv-loop search-μ-loop search-Inv-search search-μ-search
 search-returns-4 t c = let still = still-within _ _ _ _ (c .before .before .before .before .before .before .before .before .before .before .before .before .before .before .before .before .before .before .before .before .search .inv) (c .before .before .before .before .before .before .before .before .before .before .before .before .before .before .before .before .before .before .before .loop .inv) in (
   passed-ended _ _ _ _ still (c .before .before .before .before .before .before .before .before .before .before .before .before .before .before .before .before .before .next .given .1) _ _ _ (c .before .before .before .before .before .before .before .before .before .before .before .before .before .attempt .ensures) (c .before .before .before .before .before .before .before .tried4 .given .1) (kind-read (c .before .before .before .before .before .before .before .before .before .before .before .before .before .before .before .before .before .before .before .before .before .before .before .before .before .args .chart .now) _ (c .before .before .before .before .before .before .before .before .before .before .before .before .before .before .before .before .before .next .given .0 .0 .0) (c .before .before .before .before .before .before .before .before .before .before .before .before .before .before .before .before .before .before .before .before .before .before .before .before .before .pre .1 .0) (c .before .before .before .before .before .ends-on-state .ensures) (c .before .before .before .before .if1 .left))
-      (own-read (c .before .before .before .before .before .before .before .before .before .before .before .before .before .before .before .before .before .before .before .before .before .before .before .before .before .args .chart .now) _ (c .before .before .before .before .before .before .before .before .before .before .before .before .before .before .before .before .before .next .given .0 .0 .0) (c .before .before .before .before .before .before .before .before .before .before .before .before .before .before .before .before .before .before .before .before .before .before .before .before .before .pre .1 .0) (c .before .before .own .ensures) (c .before .before .before .end-junction .ensures)) (c .enum-told2 .given .1) ∙ starts _ _ _ _ _ _ _ _ _,
+      (own-by-first (c .before .before .before .before .before .before .before .before .before .before .before .before .before .before .before .before .before .before .before .before .before .before .before .before .before .args .chart .now) _ (c .before .before .before .before .before .before .before .before .before .before .before .before .before .before .before .before .before .next .given .0 .0 .0) (c .before .before .before .before .before .before .before .before .before .before .before .before .before .before .before .before .before .before .before .before .before .before .before .before .before .pre .1 .0) (c .before .before .own .ensures) (c .before .before .before .end-junction .ensures)) (c .enum-told2 .given .1) ∙ starts _ _ _ _ _ _ _ _ _,
   omega arith,
 )
 

@@ -1,19 +1,22 @@
--- A send, a block that can send, a segment that passes, one that is tried: each way through by the laws of Sending. Assumes nothing.
-use Prim.Native.Nat.{ℕ, _-_}
+-- A send, a block that can send, a segment that passes, one that is tried: each way by a law of Sending. Assumes nothing.
 use mathlib.Core.Path.{sym, _∙_}
 use mathlib.Core.Logic.{⊎-elim}
-use borrow.Author.Needs.{needs}
-use Rattle.rules.specs.Doing.{_>>_, segmentPassed}
-use Rattle.rules.proofs.Spending.{note-spends}
-use Rattle.doing.proofs.Laws.{as-noted}
-use Rattle.engine.specs.Told.{paidSend, passing}
-use Rattle.engine.proofs.Units.{went-spends, yes-falls, tested-falls}
+use Prim.Native.Nat.{ℕ, _-_}
 use native.Mathlib.Omega.{arith}
+use borrow.Author.Needs.{needs}
 use borrow.Author.Tests.{not-true, not-false}
-use Rattle.doing.specs.Held.{nowOf}
-use Rattle.engine.proofs.Sending.{paid-less, told-refused, went-then, send-idle, send-barred, send-runs, sent-told, full-path, pass-refused, pass-cut, pass-passed, tried-fails, tried-passes, Acting, act-start, act-end, act-refused, act-over, acting-sent, acting-goes}
+use Rattle.rules.specs.Lists.{if_then_else_}
+use Rattle.rules.specs.Doing.{give, _>>_, segmentPassed}
 use Rattle.rules.specs.Block.{sentBy}
+use Rattle.rules.specs.Run as the-rules
+use Rattle.rules.proofs.Spending.{note-spends}
+use Rattle.doing.specs.Held.{nowOf}
+use Rattle.doing.proofs.Laws.{as-noted}
 use Rattle.blocks.specs.Stacks.{stackOf}
+use Rattle.engine.specs.Told.{paidSend, passing}
+use Rattle.engine.proofs.Units.{tested-falls, went-keeps, yes-keeps}
+use Rattle.engine.proofs.Telling.{told-refused, went-then, paid-less}
+use Rattle.engine.proofs.Sending.{send-idle, send-barred, send-runs, sent-told, full-path, pass-came, tried-fails, tried-passes, Acting, act-start, act-end, act-refused, act-over, acting-sent, acting-goes}
 use Rattle.engine.proofs.cycle.attempt.Reads as attempt
 use Rattle.engine.proofs.cycle.+alone+attempt+block+edge+inside+pass+run+search+send+send_from.Lts-attempt as attempt-lts
 use Rattle.engine.proofs.cycle.block.Reads as block
@@ -24,7 +27,6 @@ use Rattle.engine.proofs.cycle.send.Reads as send
 use Rattle.engine.proofs.cycle.+alone+attempt+block+edge+inside+pass+run+search+send+send_from.Lts-send as send-lts
 use Rattle.engine.proofs.cycle.send_from.Reads as send-from
 use Rattle.engine.proofs.cycle.+alone+attempt+block+edge+inside+pass+run+search+send+send_from.Lts-send_from as send-from-lts
-use Rattle.rules.specs.Run as the-rules
 use Rattle.engine.proofs.cycle.+alone+attempt+block+edge+inside+pass+run+search+send+send_from.Proof.Shared.{attempt-at, block-at, pass-at, send-at, send-from-at, attempt-calls, block-calls, pass-calls, send-calls, send-from-calls}
 
 pub send-is-active-requires : (t : ℕ) → send-lts.Need-is-active-requires (send-calls t) (send-at t) send.Post
@@ -90,7 +92,7 @@ send-from-state-at-requires t c κs = search needs
 
 pub send-from-send-requires : (t : ℕ) → send-from-lts.Need-send-requires (send-from-calls t) (send-from-at t) send-from.Post
 send-from-send-requires t c κs =
-    (omega (arith, paid-less (c .before .before .before .before .before .before .before .before .before .before .before .before .args .image .now) (c .before .before .before .before .before .before .before .before .before .before .before .before .args .trace .now) (c .before .before .before .before .before .before .before .before .before .before .before .before .args .counts) (c .before .before .before .before .before .before .before .pay .ensures (c .before .before .before .before .before .before .before .before .before .before .before .before .args .image .now) (c .before .before .before .before .before .before .before .before .before .before .before .before .args .trace .now)) (c .before .before .before .before .before .paid .given .1), c .before .before .before .before .before .before .before .before .before .before .before .before .pre .0), c .before .before .before .before .before .before .before .before .before .before .before .before .pre .1)
+    (omega (arith, paid-less _ (c .before .before .before .before .before .before .before .before .before .before .before .before .args .image .now) (c .before .before .before .before .before .before .before .before .before .before .before .before .args .trace .now) (c .before .before .before .before .before .before .before .pay .ensures (c .before .before .before .before .before .before .before .before .before .before .before .before .args .image .now) (c .before .before .before .before .before .before .before .before .before .before .before .before .args .trace .now)) (c .before .before .before .before .before .paid .given .1), c .before .before .before .before .before .before .before .before .before .before .before .before .pre .0), c .before .before .before .before .before .before .before .before .before .before .before .before .pre .1)
 
 pub send-from-gone-requires : (t : ℕ) → send-from-lts.Need-gone-requires (send-from-calls t) (send-from-at t) send-from.Post
 send-from-gone-requires t c κs = search needs
@@ -224,7 +226,7 @@ pass-condition-action-requires t c κs = search needs
 
 pub pass-block-requires : (t : ℕ) → pass-lts.Need-block-requires (pass-calls t) (pass-at t) pass.Post
 pass-block-requires t c κs =
-    (omega (arith, went-spends (nowOf (c .before .before .before .before .before .before .before .before .before .before .before .before .before .before .args .image .now) (c .before .before .before .before .before .before .before .before .before .before .before .before .before .before .args .trace .now) (c .before .before .before .before .before .before .before .before .before .before .before .before .before .before .args .counts)) (c .before .before .before .before .before .before .before .before .before .before .before .before .before .before .args .image .now) (c .before .before .before .before .before .before .before .before .note .last .0) (note-spends segmentPassed (c .before .before .before .before .before .before .before .before .before .before .before .before .before .before .args .t .0)) (as-noted segmentPassed (c .before .before .before .before .before .before .before .before .before .before .before .before .before .before .args .t .0) (nowOf (c .before .before .before .before .before .before .before .before .before .before .before .before .before .before .args .image .now) (c .before .before .before .before .before .before .before .before .before .before .before .before .before .before .args .trace .now) (c .before .before .before .before .before .before .before .before .before .before .before .before .before .before .args .counts)) (c .before .before .before .before .before .before .before .before .before .passed .ensures) (c .before .before .before .before .before .before .before .before .note .ensures (c .before .before .before .before .before .before .before .before .before .before .before .before .before .before .args .image .now))) (c .before .before .before .before .noted .given .1), c .before .before .before .before .before .before .before .before .before .before .before .before .before .before .pre .0), c .before .before .before .before .before .before .before .before .before .before .before .before .before .before .pre .1)
+    (omega (arith, went-keeps (nowOf (c .before .before .before .before .before .before .before .before .before .before .before .before .before .before .args .image .now) (c .before .before .before .before .before .before .before .before .before .before .before .before .before .before .args .trace .now) (c .before .before .before .before .before .before .before .before .before .before .before .before .before .before .args .counts)) (c .before .before .before .before .before .before .before .before .before .before .before .before .before .before .args .image .now) (c .before .before .before .before .before .before .before .before .note .last .0) (note-spends segmentPassed (c .before .before .before .before .before .before .before .before .before .before .before .before .before .before .args .t .0)) (as-noted segmentPassed (c .before .before .before .before .before .before .before .before .before .before .before .before .before .before .args .t .0) (nowOf (c .before .before .before .before .before .before .before .before .before .before .before .before .before .before .args .image .now) (c .before .before .before .before .before .before .before .before .before .before .before .before .before .before .args .trace .now) (c .before .before .before .before .before .before .before .before .before .before .before .before .before .before .args .counts)) (c .before .before .before .before .before .before .before .before .before .passed .ensures) (c .before .before .before .before .before .before .before .before .note .ensures (c .before .before .before .before .before .before .before .before .before .before .before .before .before .before .args .image .now))) (c .before .before .before .before .noted .given .1), c .before .before .before .before .before .before .before .before .before .before .before .before .before .before .pre .0), c .before .before .before .before .before .before .before .before .before .before .before .before .before .before .pre .1)
 
 pub pass-same-length-2 : (t : ℕ) → pass-lts.Need-same-length-2 (pass-calls t) (pass-at t) pass.Post
 pass-same-length-2 t c = search needs
@@ -273,7 +275,7 @@ attempt-returns-2 t c =
 
 pub attempt-pass-requires : (t : ℕ) → attempt-lts.Need-pass-requires (attempt-calls t) (attempt-at t) attempt.Post
 attempt-pass-requires t c κs =
-    (omega (arith, yes-falls (nowOf (c .before .before .before .before .before .before .before .before .before .before .before .before .before .before .before .before .args .image .now) (c .before .before .before .before .before .before .before .before .before .before .before .before .before .before .before .before .args .trace .now) (c .before .before .before .before .before .before .before .before .before .before .before .before .before .before .before .before .args .counts)) (c .before .before .before .before .before .before .before .before .before .before .passes .last .1 .1 .0) (c .before .before .before .before .before .before .before .before .before .before .passes .last .1 .1 .1 .0) (tested-falls (c .before .before .before .before .before .before .before .before .before .before .before .before .before .before .before .before .args .chart .now) (c .before .before .before .before .before .before .before .before .before .before .before .before .before .before .before .before .args .event) (c .before .before .before .before .before .before .before .before .before .before .before .before .before .before .before .before .args .t .0)) (c .before .before .before .before .before .before .before .before .before .before .passes .ensures) (c .before .before .before .before .tested .given .1), c .before .before .before .before .before .before .before .before .before .before .before .before .before .before .before .before .pre .0), c .before .before .before .before .before .before .before .before .before .before .before .before .before .before .before .before .pre .1)
+    (omega (arith, yes-keeps (nowOf (c .before .before .before .before .before .before .before .before .before .before .before .before .before .before .before .before .args .image .now) (c .before .before .before .before .before .before .before .before .before .before .before .before .before .before .before .before .args .trace .now) (c .before .before .before .before .before .before .before .before .before .before .before .before .before .before .before .before .args .counts)) (c .before .before .before .before .before .before .before .before .before .before .passes .last .1 .1 .0) (c .before .before .before .before .before .before .before .before .before .before .passes .last .1 .1 .1 .0) (tested-falls (c .before .before .before .before .before .before .before .before .before .before .before .before .before .before .before .before .args .chart .now) (c .before .before .before .before .before .before .before .before .before .before .before .before .before .before .before .before .args .event) (c .before .before .before .before .before .before .before .before .before .before .before .before .before .before .before .before .args .t .0)) (c .before .before .before .before .before .before .before .before .before .before .passes .ensures) (c .before .before .before .before .tested .given .1), c .before .before .before .before .before .before .before .before .before .before .before .before .before .before .before .before .pre .0), c .before .before .before .before .before .before .before .before .before .before .before .before .before .before .before .before .pre .1)
 
 pub attempt-enum-known-acted : (t : ℕ) → attempt-lts.Need-enum-known-acted (attempt-calls t) (attempt-at t) attempt.Post
 attempt-enum-known-acted t c = search needs
@@ -293,7 +295,7 @@ attempt-same-length-6 t c = search needs
 pub attempt-returns-3 : (t : ℕ) → attempt-lts.Need-returns-3 (attempt-calls t) (attempt-at t) attempt.Post
 attempt-returns-3 t c =
     tried-passes (c .before .before .before .before .before .before .before .before .before .before .before .before .before .before .before .before .before .before .before .before .before .before .before .before .args .chart .now) (c .before .before .before .before .before .before .before .before .before .before .before .before .before .before .before .before .before .before .before .before .before .before .before .before .args .sends) (c .before .before .before .before .before .before .before .before .before .before .before .before .before .before .before .before .before .before .before .before .before .before .before .before .args .event) (c .before .before .before .before .before .before .before .before .before .before .before .before .before .before .before .before .before .before .before .before .before .before .before .before .args .source .0) (128 - c .before .before .before .before .before .before .before .before .before .before .before .before .before .before .before .before .before .before .before .before .before .before .before .before .args .before) (c .before .before .before .before .before .before .before .before .before .before .before .before .before .before .before .before .before .before .before .before .before .before .before .before .args .t .0) (nowOf (c .before .before .before .before .before .before .before .before .before .before .before .before .before .before .before .before .before .before .before .before .before .before .before .before .args .image .now) (c .before .before .before .before .before .before .before .before .before .before .before .before .before .before .before .before .before .before .before .before .before .before .before .before .args .trace .now) (c .before .before .before .before .before .before .before .before .before .before .before .before .before .before .before .before .before .before .before .before .before .before .before .before .args .counts)) (c .before .before .before .before .before .before .before .before .before .before .before .before .before .before .before .before .before .before .passes .last .1 .1 .0) (c .before .before .before .before .before .before .before .before .before .before .before .before .before .before .before .before .before .before .passes .last .1 .1 .1 .0) (c .before .before .before .before .before .before .before .before .before .before .before .before .tested .given .1) (c .before .before .before .before .before .before .before .before .before .before .before .before .before .before .before .before .before .before .passes .ensures)
-    (pass-refused (c .before .before .before .before .before .before .before .before .before .before .before .before .before .before .before .before .before .before .before .before .before .before .before .before .args .chart .now) (c .before .before .before .before .before .before .before .before .before .before .before .before .before .before .before .before .before .before .before .before .before .before .before .before .args .sends) (c .before .before .before .before .before .before .before .before .before .before .before .before .before .before .before .before .before .before .before .before .before .before .before .before .args .source .0) (c .before .before .before .before .before .before .before .before .before .before .before .before .before .before .before .before .before .before .before .before .before .before .before .before .args .t .0) _ (128 - c .before .before .before .before .before .before .before .before .before .before .before .before .before .before .before .before .before .before .before .before .before .before .before .before .args .before) (λ z. omega (arith, z, c .before .before .before .before .before .before .before .before .before .before .if1 .left)) (c .before .before .before .before .before .before .before .pass .last .1 .1 .0) (c .before .before .before .before .before .before .before .pass .last .1 .1 .1 .0) (c .before .before .before .before .before .before .before .pass .ensures) (c .before .acted .given .1))
+    (pass-came (c .before .before .before .before .before .before .before .before .before .before .before .before .before .before .before .before .before .before .before .before .before .before .before .before .args .chart .now) (c .before .before .before .before .before .before .before .before .before .before .before .before .before .before .before .before .before .before .before .before .before .before .before .before .args .sends) (c .before .before .before .before .before .before .before .before .before .before .before .before .before .before .before .before .before .before .before .before .before .before .before .before .args .source .0) (c .before .before .before .before .before .before .before .before .before .before .before .before .before .before .before .before .before .before .before .before .before .before .before .before .args .t .0) _ (128 - c .before .before .before .before .before .before .before .before .before .before .before .before .before .before .before .before .before .before .before .before .before .before .before .before .args .before) (λ z. omega (arith, z, c .before .before .before .before .before .before .before .before .before .before .if1 .left)) (c .before .before .before .before .before .before .before .pass .last .1 .1 .0) (c .before .before .before .before .before .before .before .pass .last .1 .1 .1 .0) (c .before .before .before .before .before .before .before .pass .ensures) (c .before .acted .given .1))
 
 pub attempt-same-length-7 : (t : ℕ) → attempt-lts.Need-same-length-7 (attempt-calls t) (attempt-at t) attempt.Post
 attempt-same-length-7 t c = search needs
@@ -302,9 +304,10 @@ pub attempt-same-length-8 : (t : ℕ) → attempt-lts.Need-same-length-8 (attemp
 attempt-same-length-8 t c = search needs
 
 pub attempt-returns-4 : (t : ℕ) → attempt-lts.Need-returns-4 (attempt-calls t) (attempt-at t) attempt.Post
+unfolding give if_then_else_
 attempt-returns-4 t c =
     tried-passes (c .before .before .before .before .before .before .before .before .before .before .before .before .before .before .before .before .before .before .before .before .before .before .before .before .args .chart .now) (c .before .before .before .before .before .before .before .before .before .before .before .before .before .before .before .before .before .before .before .before .before .before .before .before .args .sends) (c .before .before .before .before .before .before .before .before .before .before .before .before .before .before .before .before .before .before .before .before .before .before .before .before .args .event) (c .before .before .before .before .before .before .before .before .before .before .before .before .before .before .before .before .before .before .before .before .before .before .before .before .args .source .0) (128 - c .before .before .before .before .before .before .before .before .before .before .before .before .before .before .before .before .before .before .before .before .before .before .before .before .args .before) (c .before .before .before .before .before .before .before .before .before .before .before .before .before .before .before .before .before .before .before .before .before .before .before .before .args .t .0) (nowOf (c .before .before .before .before .before .before .before .before .before .before .before .before .before .before .before .before .before .before .before .before .before .before .before .before .args .image .now) (c .before .before .before .before .before .before .before .before .before .before .before .before .before .before .before .before .before .before .before .before .before .before .before .before .args .trace .now) (c .before .before .before .before .before .before .before .before .before .before .before .before .before .before .before .before .before .before .before .before .before .before .before .before .args .counts)) (c .before .before .before .before .before .before .before .before .before .before .before .before .before .before .before .before .before .before .passes .last .1 .1 .0) (c .before .before .before .before .before .before .before .before .before .before .before .before .before .before .before .before .before .before .passes .last .1 .1 .1 .0) (c .before .before .before .before .before .before .before .before .before .before .before .before .tested .given .1) (c .before .before .before .before .before .before .before .before .before .before .before .before .before .before .before .before .before .before .passes .ensures)
-    (pass-cut (c .before .before .before .before .before .before .before .before .before .before .before .before .before .before .before .before .before .before .before .before .before .before .before .before .args .chart .now) (c .before .before .before .before .before .before .before .before .before .before .before .before .before .before .before .before .before .before .before .before .before .before .before .before .args .sends) (c .before .before .before .before .before .before .before .before .before .before .before .before .before .before .before .before .before .before .before .before .before .before .before .before .args .source .0) (c .before .before .before .before .before .before .before .before .before .before .before .before .before .before .before .before .before .before .before .before .before .before .before .before .args .t .0) _ (128 - c .before .before .before .before .before .before .before .before .before .before .before .before .before .before .before .before .before .before .before .before .before .before .before .before .args .before) (λ z. omega (arith, z, c .before .before .before .before .before .before .before .before .before .before .if1 .left)) (c .before .before .before .before .before .before .before .pass .last .1 .1 .0) (c .before .before .before .before .before .before .before .pass .last .1 .1 .1 .0) (c .before .before .before .before .before .before .before .pass .ensures) (c .before .acted2 .given .1))
+    (pass-came (c .before .before .before .before .before .before .before .before .before .before .before .before .before .before .before .before .before .before .before .before .before .before .before .before .args .chart .now) (c .before .before .before .before .before .before .before .before .before .before .before .before .before .before .before .before .before .before .before .before .before .before .before .before .args .sends) (c .before .before .before .before .before .before .before .before .before .before .before .before .before .before .before .before .before .before .before .before .before .before .before .before .args .source .0) (c .before .before .before .before .before .before .before .before .before .before .before .before .before .before .before .before .before .before .before .before .before .before .before .before .args .t .0) _ (128 - c .before .before .before .before .before .before .before .before .before .before .before .before .before .before .before .before .before .before .before .before .before .before .before .before .args .before) (λ z. omega (arith, z, c .before .before .before .before .before .before .before .before .before .before .if1 .left)) (c .before .before .before .before .before .before .before .pass .last .1 .1 .0) (c .before .before .before .before .before .before .before .pass .last .1 .1 .1 .0) (c .before .before .before .before .before .before .before .pass .ensures) (c .before .acted2 .given .1))
 
 pub attempt-same-length-9 : (t : ℕ) → attempt-lts.Need-same-length-9 (attempt-calls t) (attempt-at t) attempt.Post
 attempt-same-length-9 t c = search needs
@@ -313,6 +316,7 @@ pub attempt-same-length-10 : (t : ℕ) → attempt-lts.Need-same-length-10 (atte
 attempt-same-length-10 t c = search needs
 
 pub attempt-returns-5 : (t : ℕ) → attempt-lts.Need-returns-5 (attempt-calls t) (attempt-at t) attempt.Post
+unfolding give if_then_else_
 attempt-returns-5 t c =
     tried-passes (c .before .before .before .before .before .before .before .before .before .before .before .before .before .before .before .before .before .before .before .before .before .before .before .before .args .chart .now) (c .before .before .before .before .before .before .before .before .before .before .before .before .before .before .before .before .before .before .before .before .before .before .before .before .args .sends) (c .before .before .before .before .before .before .before .before .before .before .before .before .before .before .before .before .before .before .before .before .before .before .before .before .args .event) (c .before .before .before .before .before .before .before .before .before .before .before .before .before .before .before .before .before .before .before .before .before .before .before .before .args .source .0) (128 - c .before .before .before .before .before .before .before .before .before .before .before .before .before .before .before .before .before .before .before .before .before .before .before .before .args .before) (c .before .before .before .before .before .before .before .before .before .before .before .before .before .before .before .before .before .before .before .before .before .before .before .before .args .t .0) (nowOf (c .before .before .before .before .before .before .before .before .before .before .before .before .before .before .before .before .before .before .before .before .before .before .before .before .args .image .now) (c .before .before .before .before .before .before .before .before .before .before .before .before .before .before .before .before .before .before .before .before .before .before .before .before .args .trace .now) (c .before .before .before .before .before .before .before .before .before .before .before .before .before .before .before .before .before .before .before .before .before .before .before .before .args .counts)) (c .before .before .before .before .before .before .before .before .before .before .before .before .before .before .before .before .before .before .passes .last .1 .1 .0) (c .before .before .before .before .before .before .before .before .before .before .before .before .before .before .before .before .before .before .passes .last .1 .1 .1 .0) (c .before .before .before .before .before .before .before .before .before .before .before .before .tested .given .1) (c .before .before .before .before .before .before .before .before .before .before .before .before .before .before .before .before .before .before .passes .ensures)
-    (pass-passed (c .before .before .before .before .before .before .before .before .before .before .before .before .before .before .before .before .before .before .before .before .before .before .before .before .args .chart .now) (c .before .before .before .before .before .before .before .before .before .before .before .before .before .before .before .before .before .before .before .before .before .before .before .before .args .sends) (c .before .before .before .before .before .before .before .before .before .before .before .before .before .before .before .before .before .before .before .before .before .before .before .before .args .source .0) (c .before .before .before .before .before .before .before .before .before .before .before .before .before .before .before .before .before .before .before .before .before .before .before .before .args .t .0) _ (128 - c .before .before .before .before .before .before .before .before .before .before .before .before .before .before .before .before .before .before .before .before .before .before .before .before .args .before) (λ z. omega (arith, z, c .before .before .before .before .before .before .before .before .before .before .if1 .left)) (c .before .before .before .before .before .before .before .pass .last .1 .1 .0) (c .before .before .before .before .before .before .before .pass .last .1 .1 .1 .0) (c .before .before .before .before .before .before .before .pass .ensures) (c .before .acted3 .given .1))
+    (pass-came (c .before .before .before .before .before .before .before .before .before .before .before .before .before .before .before .before .before .before .before .before .before .before .before .before .args .chart .now) (c .before .before .before .before .before .before .before .before .before .before .before .before .before .before .before .before .before .before .before .before .before .before .before .before .args .sends) (c .before .before .before .before .before .before .before .before .before .before .before .before .before .before .before .before .before .before .before .before .before .before .before .before .args .source .0) (c .before .before .before .before .before .before .before .before .before .before .before .before .before .before .before .before .before .before .before .before .before .before .before .before .args .t .0) _ (128 - c .before .before .before .before .before .before .before .before .before .before .before .before .before .before .before .before .before .before .before .before .before .before .before .before .args .before) (λ z. omega (arith, z, c .before .before .before .before .before .before .before .before .before .before .if1 .left)) (c .before .before .before .before .before .before .before .pass .last .1 .1 .0) (c .before .before .before .before .before .before .before .pass .last .1 .1 .1 .0) (c .before .before .before .before .before .before .before .pass .ensures) (c .before .acted3 .given .1))

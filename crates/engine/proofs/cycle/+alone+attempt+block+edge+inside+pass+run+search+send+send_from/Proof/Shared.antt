@@ -1,8 +1,30 @@
--- The measures: four times the units left, and how far a function is from the next pay; and what each member knows of those that
--- it calls. Assumes nothing.
-use Prim.Native.Nat.{ℕ, _+_, _*_, _<_, _-_}
+-- The measures: four times the units left, and how far a function is from the next pay; and what each function of the cycle
+-- knows of those that it calls. Assumes nothing.
+use Prim.Native.Nat.{ℕ, _+_, _*_, _<_}
 use borrow.Fn.Kinds.{In}
 use borrow.Fn.PlainCycle.{Measures, is, falls, and}
+use Rattle.rules.proofs.items.Item.during.Reads as items-Item-during-reads
+use Rattle.rules.proofs.items.Item.passed.Reads as passed-reads
+use Rattle.chart.proofs.instructions.a_at.Reads as a-at-reads
+use Rattle.chart.proofs.instructions.is_send.Reads as is-send-reads
+use Rattle.chart.proofs.instructions.of_block.Reads as of-block-reads
+use Rattle.chart.proofs.instructions.state_at.Reads as state-at-reads
+use Rattle.chart.proofs.segments.after.Reads as after-reads
+use Rattle.chart.proofs.segments.condition_action.Reads as condition-action-reads
+use Rattle.chart.proofs.segments.end_junction.Reads as end-junction-reads
+use Rattle.chart.proofs.segments.end_state.Reads as end-state-reads
+use Rattle.chart.proofs.segments.ends_on_state.Reads as ends-on-state-reads
+use Rattle.chart.proofs.segments.inner.Reads as inner-reads
+use Rattle.chart.proofs.segments.outer.Reads as outer-reads
+use Rattle.chart.proofs.segments.own.Reads as own-reads
+use Rattle.chart.proofs.states.during.Reads as states-during-reads
+use Rattle.image.proofs.active.is_active.Reads as is-active-reads
+use Rattle.doing.proofs.Refusal.because.Reads as because-reads
+use Rattle.doing.proofs.note.Reads as note-reads
+use Rattle.doing.proofs.pay.Reads as pay-reads
+use Rattle.doing.proofs.told.Reads as told-reads
+use Rattle.blocks.proofs.action.paid.Reads as paid-reads
+use Rattle.moves.proofs.firing.fire.Reads as fire-reads
 use Rattle.engine.proofs.cycle.alone.Reads as alone
 use Rattle.engine.proofs.cycle.alone.Kinds as alone-kinds
 use Rattle.engine.proofs.cycle.+alone+attempt+block+edge+inside+pass+run+search+send+send_from.Lts-alone as alone-lts
@@ -33,32 +55,10 @@ use Rattle.engine.proofs.cycle.+alone+attempt+block+edge+inside+pass+ru
 use Rattle.engine.proofs.cycle.send_from.Reads as send-from
 use Rattle.engine.proofs.cycle.send_from.Kinds as send-from-kinds
 use Rattle.engine.proofs.cycle.+alone+attempt+block+edge+inside+pass+run+search+send+send_from.Lts-send_from as send-from-lts
-use Rattle.blocks.proofs.action.paid.Reads as paid-reads
-use Rattle.chart.proofs.instructions.a_at.Reads as a-at-reads
-use Rattle.chart.proofs.instructions.is_send.Reads as is-send-reads
-use Rattle.chart.proofs.instructions.of_block.Reads as of-block-reads
-use Rattle.chart.proofs.instructions.state_at.Reads as state-at-reads
-use Rattle.chart.proofs.segments.after.Reads as after-reads
-use Rattle.chart.proofs.segments.condition_action.Reads as condition-action-reads
-use Rattle.chart.proofs.segments.end_junction.Reads as end-junction-reads
-use Rattle.chart.proofs.segments.end_state.Reads as end-state-reads
-use Rattle.chart.proofs.segments.ends_on_state.Reads as ends-on-state-reads
-use Rattle.chart.proofs.segments.inner.Reads as inner-reads
-use Rattle.chart.proofs.segments.outer.Reads as outer-reads
-use Rattle.chart.proofs.segments.own.Reads as own-reads
-use Rattle.chart.proofs.states.during.Reads as states-during-reads
-use Rattle.doing.proofs.Refusal.because.Reads as because-reads
-use Rattle.doing.proofs.note.Reads as note-reads
-use Rattle.doing.proofs.pay.Reads as pay-reads
-use Rattle.doing.proofs.told.Reads as told-reads
 use Rattle.engine.proofs.cycle.failed.Reads as failed-reads
 use Rattle.engine.proofs.cycle.gone.Reads as gone-reads
 use Rattle.engine.proofs.passing.passes.Reads as passes-reads
 use Rattle.engine.proofs.turns.next.Reads as next-reads
-use Rattle.image.proofs.active.is_active.Reads as is-active-reads
-use Rattle.moves.proofs.firing.fire.Reads as fire-reads
-use Rattle.rules.proofs.items.Item.during.Reads as items-Item-during-reads
-use Rattle.rules.proofs.items.Item.passed.Reads as passed-reads
 
 abbrev pub μ-alone : Measures 3 alone-kinds.ps ℕ
 μ-alone κs a = 4 * a .1 .1 .1 .1 .0 .units
