@@ -100,7 +100,7 @@ static unsigned usual_allowance(size_t length)
         printf("%s\n", why[told.refusal]);
         return AFRAULENC_UNITS;
     }
-    printf("no step uses more than %u units\n", told.units);
+    printf("the chart's bound is %u units\n", told.units);
     return told.units;
 }
 
