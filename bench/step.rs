@@ -105,24 +105,31 @@ fn seconds<T: Copy>(calls: usize, mut call: impl FnMut() -> T) -> f64 {
 }
 
 /// The medians of rounds in turn, nanoseconds a call.
-fn medians<T: Copy, U: Copy>(mut a: impl FnMut() -> T, mut b: impl FnMut() -> U) -> (f64, f64) {
+fn medians<const N: usize>(mut calls: [&mut dyn FnMut() -> u64; N]) -> [f64; N] {
     // as many calls as take about a twentieth of a second
-    let calls_of = |taken: f64| ((0.05 * 50.0 / taken) as usize).max(1);
-    let (calls_a, calls_b) = (calls_of(seconds(50, &mut a)), calls_of(seconds(50, &mut b)));
-    let (mut times_a, mut times_b) = (vec![], vec![]);
-    for _ in 0..ROUNDS {
-        times_a.push(seconds(calls_a, &mut a) / calls_a as f64);
-        times_b.push(seconds(calls_b, &mut b) / calls_b as f64);
+    let mut counts = [0; N];
+    for (count, call) in counts.iter_mut().zip(&mut calls) {
+        *count = ((0.05 * 50.0 / seconds(50, &mut **call)) as usize).clamp(1, 10_000_000);
     }
-    times_a.sort_by(f64::total_cmp);
-    times_b.sort_by(f64::total_cmp);
-    (1e9 * times_a[ROUNDS / 2], 1e9 * times_b[ROUNDS / 2])
+    let mut times = vec![[0.0; N]; ROUNDS];
+    for round in &mut times {
+        for i in 0..N {
+            round[i] = 1e9 * seconds(counts[i], &mut *calls[i]) / counts[i] as f64;
+        }
+    }
+    let mut answer = [0.0; N];
+    for (i, median) in answer.iter_mut().enumerate() {
+        let mut column: Vec<f64> = times.iter().map(|round| round[i]).collect();
+        column.sort_by(f64::total_cmp);
+        *median = column[ROUNDS / 2];
+    }
+    answer
 }
 
 fn events(case: &Case) {
     let (units, items) = agree(case);
     let (mut ours, mut plain) = (Lift::new(proved_step, case), Lift::new(lifts::step, case));
-    let (ours, plain) = medians(|| ours.step(), || plain.step());
+    let [ours, plain] = medians([&mut || ours.step(), &mut || plain.step()]);
     print!("an event on {} ({} bytes, {units} units and {items} items): ", case.name, case.chart.len());
     println!("{:.2} of the plain program's time ({ours:.0} ns and {plain:.0} ns)", ours / plain);
 }
@@ -134,9 +141,25 @@ fn check(case: &Case) {
     assert_eq!(refused(), 15);
     let mut copy = vec![0u8; chart.len()];
     let target = copy.as_mut_ptr();
-    let copies = || unsafe { std::ptr::copy_nonoverlapping(opaque(chart.as_ptr()), opaque(target), opaque(chart.len())) };
-    let (ours, copied) = medians(refused, copies);
+    let mut copies = || unsafe {
+        std::ptr::copy_nonoverlapping(opaque(chart.as_ptr()), opaque(target), opaque(chart.len()));
+        0
+    };
+    let [ours, copied] = medians([&mut refused, &mut copies]);
     println!("a check of {}: {:.1} times a copy of its bytes ({ours:.0} ns and {copied:.0} ns)", case.name, ours / copied);
+}
+
+/// Where the time goes: a call for a lift that is not there ends behind the chart's check, one with event 0 behind the image's.
+fn stages(case: &Case) {
+    let (mut lift, chart) = (Lift::new(proved_step, case), &case.chart[..]);
+    let [mut one, mut other] = [Lift::new(proved_step, case), Lift::new(proved_step, case)];
+    let mut checked = || proved_step(opaque(chart), &mut one.board, &mut one.trace, 64, 1, PLENTY);
+    let mut accepted = || proved_step(opaque(chart), &mut other.board, &mut other.trace, LIFT, 0, PLENTY);
+    assert_eq!((checked(), accepted()), (12, 14));
+    let [whole, checked, accepted] = medians([&mut || lift.step(), &mut checked, &mut accepted]);
+    let (check, image) = (100.0 * checked / whole, 100.0 * (accepted - checked) / whole);
+    print!("of an event on {}: {check:.0} % the chart's check, {image:.0} % the image's, ", case.name);
+    println!("{:.0} % the step ({whole:.0} ns in all)", 100.0 - check - image);
 }
 
 /// The bytes of stack that a call touches: those below this frame are painted, and looked at afterwards.
@@ -186,6 +209,9 @@ fn main() {
     events(&charts::middle());
     events(&charts::largest());
     check(&charts::largest());
+    for case in [charts::two_leaves(), charts::middle(), charts::largest()] {
+        stages(&case);
+    }
     stack(&charts::deepest("the deepest step, its sends in a during action", Sends::InDuring));
     stack(&charts::deepest("the deepest step, its sends in a condition action", Sends::InConditionAction));
 }

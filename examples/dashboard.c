@@ -1,7 +1,10 @@
 /* A dashboard of 64 lifts: it loads a chart file, makes the lifts fresh and starts them, and steps the events of its input, a
  * line each: lift, event, and an allowance where it is not to be the chart's bound. It prints what rang, and why a call was
  * refused. */
+#include <errno.h>
 #include <stdio.h>
+#include <stdlib.h>
+#include <string.h>
 #include "afraulenc.h"
 
 static const char *const why[] = {
@@ -31,11 +34,12 @@ static const char *const why[] = {
     "the bound is over 1,000,000",
 };
 
-static uint8_t chart[12236 + 1]; /* one byte more than the largest: a longer file is refused by its length */
+static uint8_t chart[AFRAULENC_CHART + 1]; /* one byte more than the largest: a longer file is refused by its length */
 static uint8_t board[AFRAULENC_BOARD];
 static uint8_t trace[AFRAULENC_TRACE];
 
-static void print_rings(unsigned items)
+/* What rang, in order; whether anything did. */
+static int print_rings(unsigned items)
 {
     unsigned rings = 0;
     for (unsigned i = 0; i < items; i++) {
@@ -45,55 +49,66 @@ static void print_rings(unsigned items)
             rings++;
         }
     }
-    if (rings == 0)
-        printf("nothing rang");
+    return rings != 0;
 }
 
-static void step_and_print(size_t length, unsigned lift, unsigned event, unsigned allowance)
+static struct afraulenc_answer step_lift(size_t length, uint32_t lift, uint32_t event, uint32_t allowance)
 {
-    uint64_t answer = step(chart, length, board, sizeof board, trace, sizeof trace, lift, event, allowance);
-    struct afraulenc_answer told = afraulenc_unpack(answer);
-    printf("lift %u, event %u: ", lift, event);
+    return afraulenc_unpack(step(chart, length, board, sizeof board, trace, sizeof trace, lift, event, allowance));
+}
+
+static void step_and_print(size_t length, uint32_t lift, uint32_t event, uint32_t allowance)
+{
+    struct afraulenc_answer told = step_lift(length, lift, event, allowance);
+    printf("lift %u, event %u: ", (unsigned)lift, (unsigned)event);
     if (told.refusal != 0) {
         printf("refused, %u: %s\n", told.refusal, why[told.refusal]);
         return;
     }
-    print_rings(told.items);
+    if (!print_rings(told.items))
+        printf("nothing rang");
     printf("; %u units, %u items\n", told.units, told.items);
 }
 
-/* A lift's first step enters its root, whatever the event. */
-static unsigned start(size_t length, unsigned lift)
+/* A lift's first step enters its root, whatever the event; entry actions can ring. */
+static unsigned start(size_t length, uint32_t lift)
 {
-    uint64_t refusal = fresh(chart, length, board, sizeof board, lift);
+    unsigned refusal = (unsigned)fresh(chart, length, board, sizeof board, lift);
     if (refusal != 0)
-        return (unsigned)refusal;
-    uint64_t answer = step(chart, length, board, sizeof board, trace, sizeof trace, lift, 1, AFRAULENC_UNITS);
-    return afraulenc_unpack(answer).refusal;
+        return refusal;
+    struct afraulenc_answer told = step_lift(length, lift, 1, AFRAULENC_UNITS);
+    if (told.refusal == 0 && print_rings(told.items))
+        printf(" in the start of lift %u\n", (unsigned)lift);
+    return told.refusal;
 }
 
-static unsigned start_all(size_t length)
+static int start_all(size_t length)
 {
-    for (unsigned lift = 0; lift < AFRAULENC_LIFTS; lift++) {
+    for (uint32_t lift = 0; lift < AFRAULENC_LIFTS; lift++) {
         unsigned refusal = start(length, lift);
-        if (refusal != 0)
-            return refusal;
+        if (refusal != 0) {
+            printf("lift %u is not started: %u: %s\n", (unsigned)lift, refusal, why[refusal]);
+            return 0;
+        }
     }
-    return 0;
+    printf("%u lifts are started\n", AFRAULENC_LIFTS);
+    return 1;
 }
 
-static size_t load(const char *name)
+/* Whether the file could be read. */
+static int load(const char *name, size_t *length)
 {
     FILE *file = fopen(name, "rb");
     if (file == NULL)
         return 0;
-    size_t length = fread(chart, 1, sizeof chart, file);
+    *length = fread(chart, 1, sizeof chart, file);
+    int read = !ferror(file);
     fclose(file);
-    return length;
+    return read;
 }
 
 /* The allowance of a step that has no other: the bound, or the most where there is none. */
-static unsigned usual_allowance(size_t length)
+static uint32_t usual_allowance(size_t length)
 {
     struct afraulenc_bound told = afraulenc_unpack_bound(bound(chart, length));
     if (told.refusal != 0) {
@@ -104,25 +119,60 @@ static unsigned usual_allowance(size_t length)
     return told.units;
 }
 
+/* The next number of a line, of 32 bits; whether there is one. */
+static int number(char **rest, uint32_t *value)
+{
+    char *at = *rest + strspn(*rest, " \t");
+    if (*at < '0' || *at > '9')
+        return 0;
+    errno = 0;
+    unsigned long long read = strtoull(at, rest, 10);
+    *value = (uint32_t)read;
+    return errno == 0 && read <= UINT32_MAX;
+}
+
+/* Lift and event, then perhaps an allowance, and nothing more. */
+static int parse(char *line, uint32_t *lift, uint32_t *event, uint32_t *allowance)
+{
+    if (!number(&line, lift) || !number(&line, event))
+        return 0;
+    char *rest = line;
+    if (number(&rest, allowance))
+        line = rest;
+    line += strspn(line, " \t\r");
+    return *line == '\n' || *line == 0;
+}
+
+static void serve(size_t length, uint32_t usual)
+{
+    char line[80];
+    while (fgets(line, sizeof line, stdin) != NULL) {
+        uint32_t lift, event, allowance = usual;
+        int whole = strchr(line, '\n') != NULL || feof(stdin);
+        if (whole && parse(line, &lift, &event, &allowance)) {
+            step_and_print(length, lift, event, allowance);
+            continue;
+        }
+        line[strcspn(line, "\r\n")] = 0;
+        printf("not an event: %s\n", line);
+        while (!whole && fgets(line, sizeof line, stdin) != NULL) /* the rest of a line that is too long */
+            whole = strchr(line, '\n') != NULL;
+    }
+}
+
 int main(int count, char **words)
 {
+    size_t length;
     if (count != 2) {
         fprintf(stderr, "usage: dashboard CHART < EVENTS\n");
         return 2;
     }
-    size_t length = load(words[1]);
-    unsigned refusal = start_all(length);
-    if (refusal != 0) {
-        printf("%s: refused, %u: %s\n", words[1], refusal, why[refusal]);
+    if (!load(words[1], &length)) {
+        perror(words[1]);
+        return 2;
+    }
+    if (!start_all(length))
         return 1;
-    }
-    printf("%u lifts are started\n", AFRAULENC_LIFTS);
-    unsigned usual = usual_allowance(length);
-    char line[80];
-    while (fgets(line, sizeof line, stdin) != NULL) {
-        unsigned lift, event, allowance = usual;
-        if (sscanf(line, "%u %u %u", &lift, &event, &allowance) >= 2)
-            step_and_print(length, lift, event, allowance);
-    }
+    serve(length, usual_allowance(length));
     return 0;
 }

@@ -1,4 +1,4 @@
-/* Afraulenc for a host in C: the calls of libafraulenc.a, which is x86-64 code and calls nothing outside itself.
+/* Afraulenc for a host in C: the calls of libafraulenc.a, which is x86-64 code and calls only memcpy and memset.
  *
  * A slice is a pointer and, behind it, how many bytes it has. Each call reads the chart, writes only where it says below, keeps
  * no pointer, allocates nothing and ends. Any bytes whatever may stand in what is lent: they are answered by number. A refused
@@ -12,6 +12,11 @@
 #include <stddef.h>
 #include <stdint.h>
 
+#ifdef __cplusplus
+extern "C" {
+#endif
+
+#define AFRAULENC_CHART 12236   /* bytes of the largest chart */
 #define AFRAULENC_LIFTS 64      /* lifts of a board, counted from 0 */
 #define AFRAULENC_IMAGE 202     /* bytes of one lift's part: lift k owns 202 k to 202 k + 201 */
 #define AFRAULENC_BOARD (AFRAULENC_LIFTS * AFRAULENC_IMAGE)
@@ -19,11 +24,19 @@
 #define AFRAULENC_TRACE 1024    /* a longer trace is not used past these bytes */
 #define AFRAULENC_UNITS 1000000 /* the largest allowance, and the largest bound */
 
-/* One step of a lift with an event. It writes that lift's part of the board and the items at the start of the trace, and both
- * only where it is not refused. The answer is refusal + 256 x items + 131,072 x units: see afraulenc_unpack. Refusals: 1 to 11
- * of the chart, 12 no such lift on this board, 13 its image is not one of this chart, 14 no such event, 15 the allowance is too
- * large, 16 it is used up, 17 a value outside 32 bits or a divisor 0, 18 a ninth send open, 19 a path of more than 128
- * segments, 20 no room for an item. */
+/* Refusals of a chart, which every call tests first; the lowest that applies is answered: 1 under 12 bytes, 2 no CH mark, 3 a
+ * count out of its range, 4 the length is not the total, 5 another mark wrong or a zero byte not zero, 6 a rule of states broken,
+ * 7 a segment from or to nowhere, or with no such event, 8 a block that runs past the instructions, is empty with a start, or is
+ * the root's, 9 no such op or operand, 10 a block's stack use wrong, 11 a store, raise or send where it is barred. */
+
+/* One step of a lift (0 to 63) with an event (1 to the chart's count). The allowance is how many units it may use, at most
+ * 1,000,000: one for each state run, entered or left, each segment tried, each instruction performed. The first step after fresh
+ * enters the chart's root and uses the event up, whichever it is. The trace may have any length: there is room for a quarter of
+ * its bytes in items, at most 256. The call writes that lift's part of the board and the items at the start of the trace, and
+ * both only where it is not refused. The answer is refusal + 256 x items + 131,072 x units: see afraulenc_unpack.
+ * Refusals, in this order: 1 to 11 of the chart, 12 no such lift on this board, 13 its image is not one of this chart, 14 no such
+ * event, 15 the allowance is too large; then whichever is met first: 16 the allowance is used up, 17 a value outside 32 bits or
+ * a divisor 0, 18 a ninth send would be open, 19 a path of more than 128 segments, 20 no room for an item. */
 uint64_t step(const uint8_t *chart, size_t chart_bytes, uint8_t *board, size_t board_bytes, uint8_t *trace, size_t trace_bytes,
               uint32_t lift, uint32_t event, uint32_t allowance);
 
@@ -88,5 +101,9 @@ static inline struct afraulenc_item afraulenc_item_at(const uint8_t *trace, unsi
     told.number = at[0] + 256u * at[1];
     return told;
 }
+
+#ifdef __cplusplus
+}
+#endif
 
 #endif

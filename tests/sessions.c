@@ -1,6 +1,6 @@
-/* The cases of the paper's 'Sessions to check', and one for each refusal of a step and of the bound: each chart is written as
- * its bytes, the steps are made on a board as a host has one, and what comes of them is printed. sessions.out has what the
- * paper gives, worked out by hand. */
+/* The cases of the paper's 'Sessions to check', and one for each of 12 to 23: each chart is written as its bytes, the steps
+ * are made on a board as a host has one, and what comes of them is printed. sessions.out has what the paper gives, worked out by
+ * hand. */
 #include <stdio.h>
 #include <string.h>
 #include "afraulenc.h"
@@ -32,12 +32,14 @@ static void remember(void)
     memcpy(trace_before, trace, sizeof trace);
 }
 
-/* A refused call leaves every lent byte, any call all but lift 0's part and the items. */
-static void hold(uint64_t answer)
+/* A refused call leaves every lent byte, any call all but that lift's part and the items. */
+static void hold(uint64_t answer, unsigned lift)
 {
     struct afraulenc_answer told = afraulenc_unpack(answer);
-    size_t part = told.refusal != 0 ? 0 : AFRAULENC_IMAGE, items = AFRAULENC_ITEM * (size_t)told.items;
-    if (memcmp(board + part, board_before + part, sizeof board - part) != 0)
+    size_t part = AFRAULENC_IMAGE * (size_t)lift, items = AFRAULENC_ITEM * (size_t)told.items;
+    if (told.refusal == 0)
+        memcpy(board_before + part, board + part, AFRAULENC_IMAGE);
+    if (memcmp(board, board_before, sizeof board) != 0)
         printf("a byte of the board that was to stay has changed\n");
     if (memcmp(trace + items, trace_before + items, sizeof trace - items) != 0)
         printf("a byte of the trace that was to stay has changed\n");
@@ -48,7 +50,7 @@ static void step_within(unsigned event, unsigned allowance, size_t bytes)
 {
     remember();
     uint64_t answer = step(chart, length, board, sizeof board, trace, bytes, 0, event, allowance);
-    hold(answer);
+    hold(answer, 0);
     struct afraulenc_answer told = afraulenc_unpack(answer);
     printf("%u %u %u", told.refusal, told.units, told.items);
     for (unsigned i = 0; i < told.items; i++) {
@@ -58,7 +60,7 @@ static void step_within(unsigned event, unsigned allowance, size_t bytes)
     printf("\n");
 }
 
-static void event(unsigned event)
+static void step_event(unsigned event)
 {
     step_within(event, AFRAULENC_UNITS, sizeof trace);
 }
@@ -79,7 +81,7 @@ static void ready(void)
     printf("%u %u\n", told.refusal, told.units);
     remember();
     uint64_t refusal = fresh(chart, length, board, sizeof board, 0);
-    hold(refusal);
+    hold(refusal, 0);
     if (refusal != 0)
         printf("fresh: %u\n", (unsigned)refusal);
 }
@@ -112,28 +114,28 @@ static void a(void)
 {
     chart_a("A, events 1, 1, 2");
     ready();
-    event(1);
-    event(1);
-    event(2);
+    step_event(1);
+    step_event(1);
+    step_event(2);
     image();
 
     chart_a("A's second step with 0, 5 and 6 units");
     ready();
-    event(1);
+    step_event(1);
     step_within(1, 0, sizeof trace);
     step_within(1, 5, sizeof trace);
     step_within(1, 6, sizeof trace);
 
     chart_a("A's second step with 23 and 24 bytes of trace");
     ready();
-    event(1);
+    step_event(1);
     step_within(1, AFRAULENC_UNITS, 23);
     step_within(1, AFRAULENC_UNITS, 24);
 
     chart_a("A with events 0 and 3, and 1,000,001 units");
     ready();
-    event(0);
-    event(3);
+    step_event(0);
+    step_event(3);
     step_within(1, AFRAULENC_UNITS + 1, sizeof trace);
     step_within(1, AFRAULENC_UNITS, sizeof trace);
 }
@@ -146,32 +148,43 @@ static void a_cut(void)
     for (unsigned i = 0; i < 3; i++) {
         length = cuts[i];
         ready();
-        event(1);
+        step_event(1);
     }
 
-    chart_a("A with lift 64, lift 63, and lift 63 on a board that is a byte short");
+    chart_a("A with lift 64, and lift 63 on a board that is a byte short");
     remember();
     printf("%u", (unsigned)fresh(chart, length, board, sizeof board, 64));
     printf(" %u", (unsigned)step(chart, length, board, sizeof board, trace, sizeof trace, 64, 1, 9));
     printf(" %u", (unsigned)fresh(chart, length, board, sizeof board - 1, 63));
-    printf(" %u", (unsigned)step(chart, length, board, sizeof board - 1, trace, sizeof trace, 63, 1, 9));
-    hold(12);
-    printf(" %u\n", (unsigned)fresh(chart, length, board, sizeof board, 63));
-    printf("%s\n", memcmp(board, board_before, sizeof board - 202) == 0 ? "the other lifts are as before" : "a byte of another lift has changed");
+    printf(" %u\n", (unsigned)step(chart, length, board, sizeof board - 1, trace, sizeof trace, 63, 1, 9));
+    hold(12, 0);
+
+    chart_a("A with lift 5: fresh, and two steps");
+    remember();
+    uint64_t answer = fresh(chart, length, board, sizeof board, 5);
+    hold(answer, 5);
+    printf("%u", (unsigned)answer);
+    for (unsigned i = 0; i < 2; i++) {
+        remember();
+        answer = step(chart, length, board, sizeof board, trace, sizeof trace, 5, 1, AFRAULENC_UNITS);
+        hold(answer, 5);
+        printf(" %u", afraulenc_unpack(answer).units);
+    }
+    printf("\n");
 
     chart_a("A with an image that is not its own");
     ready();
     board[0] = 'J';
-    event(1);
+    step_event(1);
     ready();
     board[10 + 1] = 2; /* history of a state that keeps none */
-    event(1);
+    step_event(1);
     ready();
     board[2] = 1; /* the root active, and no child */
-    event(1);
+    step_event(1);
     ready();
     board[74] = 1; /* a variable past the chart's */
-    event(1);
+    step_event(1);
 }
 
 static void searches(void)
@@ -182,8 +195,8 @@ static void searches(void)
     more("5452 02 00 00 02 00 0000 020003 000000 000000"); /* x = 2? */
     more(VARIABLE "494E 00 00 0100 494E 02 00 0000 494E 01 00 0000 494E 00 00 0200 494E 09 00 0000");
     ready();
-    event(1);
-    event(1);
+    step_event(1);
+    step_event(1);
     image();
 
     begin("the same with a dead end", "4348 04 01 0200 01 01 00 00 0200 " ROOT LEAF LEAF LEAF JUNCTION);
@@ -191,15 +204,15 @@ static void searches(void)
     more("5452 00 01 00 03 00 0000 000000 000000 000000");
     more(VARIABLE "494E 00 00 0100 494E 02 00 0000");
     ready();
-    event(1);
-    event(1);
+    step_event(1);
+    step_event(1);
     image();
 
     begin("from 1 to 1", "4348 02 00 0100 00 01 00 00 0000 " ROOT LEAF);
     more("5452 00 01 00 01 01 0000 000000 000000 000000");
     ready();
-    event(1);
-    event(1);
+    step_event(1);
+    step_event(1);
     image();
 
     begin("a junction that two segments lead to counts twice", "4348 03 02 0400 00 01 00 00 0000 " ROOT LEAF LEAF JUNCTION JUNCTION);
@@ -208,8 +221,8 @@ static void searches(void)
     more("5452 02 00 01 01 00 0000 000000 000000 000000");
     more("5452 02 01 00 02 00 0000 000000 000000 000000");
     ready();
-    event(1);
-    event(1);
+    step_event(1);
+    step_event(1);
     image();
 }
 
@@ -220,22 +233,22 @@ static void sends(void)
     more("5452 00 01 00 02 02 0000 000000 000000 000000");
     more("494E 0C 02 0000");
     ready();
-    event(1);
-    event(1);
+    step_event(1);
+    step_event(1);
     image();
 
     begin("the first of two sends to the second", "4348 03 00 0000 00 01 00 00 0100 " ALL_OF_ROOT);
     more("5354 00 00 00 00 000000 000001 000000 00 " LEAF);
     more("494E 0C 01 0200");
     ready();
-    event(1);
-    event(1);
+    step_event(1);
+    step_event(1);
     image();
 
     begin("a send to the root at each run of 1: the ninth", "4348 02 00 0000 00 01 00 00 0100 " ROOT "5354 00 00 00 00 000000 000001 000000 00");
     more("494E 0C 01 0000");
     ready();
-    event(1);
+    step_event(1);
     step_within(1, 26, sizeof trace);
     step_within(1, 27, sizeof trace);
     image();
@@ -249,8 +262,8 @@ static void divide(const char *title, const char *op)
     more(op);
     more("494E 02 00 0000");
     ready();
-    event(1);
-    event(1);
+    step_event(1);
+    step_event(1);
     image();
 }
 
@@ -263,7 +276,7 @@ static void limits(void)
     more("5452 00 01 01 00 01 0000 000000 000000 000000");
     more("5452 02 00 01 00 00 0000 000000 000000 000000");
     ready();
-    event(1);
+    step_event(1);
     step_within(1, 130, sizeof trace);
     step_within(1, 131, sizeof trace);
     step_within(1, 131, 4 * 128 + 3);

@@ -238,3 +238,12 @@ module _ (c : Chart) (h : Header) (k : CodeBlock) (part : Bytes) (own : h ≡ he
       → went tt later ≡ action c (blockOf k) n
   unfolding action done give
   action-ran e = then-goes (perform noSend [] (code c (blockOf k))) done n (sym (e ∙ performed))
+
+-- a block of no instructions
+pub no-code : (c : Chart) (k : CodeBlock) → k .count ≡ 0 → code c (blockOf k) ≡ []
+unfolding code upFrom
+no-code c k e = rw e
+
+pub action-empty : (c : Chart) (k : CodeBlock) (n : Now) → k .count ≡ 0 → went tt n ≡ action c (blockOf k) n
+unfolding action perform done give _>>_
+action-empty c k n e = rw (no-code c k e)

@@ -85,6 +85,9 @@ pub fn perform(
     requires { ⌜ h ≡ headerOf (now chart) ⌝ }
     ensures { λ r. ⌜ outcomeOf r (now (image .exit)) (now (trace .exit)) ≡ rules.action (now (chart .entry)) (blockOf block) (nowOf (now (image .entry)) (now (trace .entry)) counts) ⌝ }
 {
+    if block.count == 0 {
+        return Done::Went(counts);
+    }
     let mut cells = [0i32; CELLS];
     let part = instructions::of_block(chart, h, block);
     let performed = run(part, block.count, &mut cells, image, trace, counts);

@@ -1,4 +1,4 @@
-// The bound of a chart: what no step of it can pay more than, and refusals 21 to 23.
+// The bound of a chart, as the paper sums it from the chart's tables, and refusals 21 to 23.
 mod tables; // a number for each that a junction can have
 mod sums; // sums that stop above the largest bound
 mod loops; // whether segments lead from a junction back to it

@@ -48,6 +48,7 @@ fn onward(chart: &[u8], h: Header, here: &[u32], there: &mut [u32]) -> bool
     more
 }
 
+// Whether segments lead from j back to it.
 pub fn loops(chart: &[u8], h: Header, j: JunctionNo) -> bool
     requires { ⌜ h ≡ headerOf (now chart) ⌝ }
     ensures { λ r. ⌜ r ≡ rules.loops (now (chart .entry)) (j .0) ⌝ }

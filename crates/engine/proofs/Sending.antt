@@ -41,7 +41,7 @@ use Rattle.blocks.specs.declared.instruct.Left.{Left}
 use Rattle.blocks.specs.declared.instruct.Performed.{Performed}
 use Rattle.blocks.specs.declared.instruct.Performed.the-variants as performed
 use Rattle.blocks.specs.Code.{codeIn, instructed, paidFor}
-use Rattle.blocks.proofs.Performing.{code-end, code-step, still-held, part-code}
+use Rattle.blocks.proofs.Performing.{code-end, code-step, still-held, part-code, no-code}
 use Rattle.moves.proofs.Follows.{less-one}
 use Rattle.engine.specs.Told.{Try, failed, passed, cutOff, isAbandoned, tested, paidSend, acted, passing, passingWithin, tried}
 use Rattle.engine.proofs.Joining.{after-after}
@@ -211,6 +211,11 @@ unfolding toAct acted stackOf
 act-start c sends owner h k part cells n own cut =
     let all : k .count - 0 ≡ k .count = omega arith in
     rw (all, part-has c h k part own cut)
+
+-- a block of no instructions does nothing
+pub act-empty : (c : Chart) (sends owner : ℕ) (k : CodeBlock) (n : Now) → k .count ≡ 0 → went false n ≡ acted c sends owner (blockOf k) n
+unfolding acted perform give isAbandoned _>>=_
+act-empty c sends owner k n e = rw (no-code c k e)
 
 abbrev here : Bytes → ℕ → Instruction
 here part k = instructionFrom part (6 * k)

@@ -46,9 +46,9 @@ const CELLS: usize = Block::STACK as usize;
 // What trying a segment comes to.
 pub enum Tried {
     Refused(Refusal),
-    Failed(Counts),
-    Passed(Counts),
-    Cut(Counts),
+    Failed(Counts), // it does not pass
+    Passed(Counts), // and its condition action is done
+    Cut(Counts), // the owner is gone
 }
 
 // A target state, and how long the path to it is.
@@ -62,9 +62,9 @@ pub struct Way {
 pub enum Found {
     Refused(Refusal),
     Reached(Way),
-    Nowhere(Counts),
-    Ended(Counts),
-    Cut(Counts),
+    Nowhere(Counts), // no segment led to a state
+    Ended(Counts), // at a junction without segments
+    Cut(Counts), // the owner is gone
 }
 
 // Whether the owner of a block is not there any more after a send.
@@ -147,6 +147,9 @@ fn block(
     requires { ⌜ h ≡ headerOf (now chart) ⌝ }
     ensures { λ r. ⌜ verdictOf r (now (image .exit)) (now (trace .exit)) ≡ told.acted (now (chart .entry)) sends (owner .0) (blockOf block) (nowOf (now (image .entry)) (now (trace .entry)) counts) ⌝ }
 {
+    if block.count == 0 {
+        return Verdict::No(counts);
+    }
     let mut cells = [0i32; CELLS];
     let part = instructions::of_block(chart, h, block);
     let mut left = counts;
@@ -311,6 +314,9 @@ fn edge(
     requires { ⌜ h ≡ headerOf (now chart) ⌝ }
     ensures { λ r. ⌜ verdictOf r (now (image .exit)) (now (trace .exit)) ≡ told.followed (now (chart .entry)) sends event (p .0) (listOf (now (chart .entry)) first) (nowOf (now (image .entry)) (now (trace .entry)) counts) ⌝ }
 {
+    if let Next::End = first {
+        return Verdict::No(counts);
+    }
     let mut path = [0u16; PATH];
     let found = search(
         chart,
@@ -372,7 +378,7 @@ fn alone(
     inside(chart, h, image, trace, rest, sends, event, p)
 }
 
-// No outer segment reached a state.
+// What follows where no outer segment reached a state: the during action, then the inner segments; whether the run is over.
 fn inside(
     chart: &[u8],
     h: Header,

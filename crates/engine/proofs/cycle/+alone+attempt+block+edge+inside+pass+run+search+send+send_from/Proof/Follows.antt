@@ -9,7 +9,7 @@ use Rattle.rules.proofs.Spending.{note-spends}
 use Rattle.doing.proofs.Laws.{as-noted}
 use Rattle.engine.specs.Told.{ending, followed, insideAlone, runAlone}
 use Rattle.engine.proofs.Telling.{told-refused, went-then, paid-less, no-then, over-ends}
-use Rattle.engine.proofs.Following.{outer-followed, inner-followed, search-came, search-fired, way-within}
+use Rattle.engine.proofs.Following.{outer-followed, inner-followed, none-followed, search-came, search-fired, way-within}
 use Rattle.engine.proofs.Units.{acted-spends, followed-spends, went-keeps, no-keeps}
 use Rattle.engine.proofs.cycle.alone.Reads as alone
 use Rattle.engine.proofs.cycle.+alone+attempt+block+edge+inside+pass+run+search+send+send_from.Lts-alone as alone-lts
@@ -18,6 +18,15 @@ use Rattle.engine.proofs.cycle.+alone+attempt+block+edge+inside+pass+ru
 use Rattle.engine.proofs.cycle.inside.Reads as inside
 use Rattle.engine.proofs.cycle.+alone+attempt+block+edge+inside+pass+run+search+send+send_from.Lts-inside as inside-lts
 use Rattle.engine.proofs.cycle.+alone+attempt+block+edge+inside+pass+run+search+send+send_from.Proof.Shared.{alone-at, edge-at, inside-at, alone-calls, edge-calls, inside-calls}
+
+pub edge-enum-told : (t : ℕ) → edge-lts.Need-enum-told (edge-calls t) (edge-at t) edge.Post
+edge-enum-told t c = search needs
+
+pub edge-returns : (t : ℕ) → edge-lts.Need-returns (edge-calls t) (edge-at t) edge.Post
+edge-returns t c = none-followed (c .before .before .before .before .before .args .chart .now) (c .before .before .before .before .before .args .sends) (c .before .before .before .before .before .args .event) (c .before .before .before .before .before .args .p .0) _ (c .enum-told .given .1)
+
+pub edge-enum-told-2 : (t : ℕ) → edge-lts.Need-enum-told-2 (edge-calls t) (edge-at t) edge.Post
+edge-enum-told-2 t c = search needs
 
 pub edge-slice-aggregate-search : (t : ℕ) → edge-lts.Need-slice-aggregate-search (edge-calls t) (edge-at t) edge.Post
 edge-slice-aggregate-search t c = search needs
@@ -58,9 +67,9 @@ edge-same-length t c = search needs
 pub edge-same-length-2 : (t : ℕ) → edge-lts.Need-same-length-2 (edge-calls t) (edge-at t) edge.Post
 edge-same-length-2 t c = search needs
 
-pub edge-returns : (t : ℕ) → edge-lts.Need-returns (edge-calls t) (edge-at t) edge.Post
+pub edge-returns-2 : (t : ℕ) → edge-lts.Need-returns-2 (edge-calls t) (edge-at t) edge.Post
 unfolding followed ending give _>>=_
-edge-returns t c = search-came _ (c .before .before .before .before .before .before .before .before .before .before .before .before .before .before .before .args .sends) (c .before .before .before .before .before .before .before .before .before .before .before .before .before .before .before .args .event) _ (c .before .before .before .before .before .before .before .before .search .last .1 .1 .1 .1 .0) (c .before .before .before .before .before .before .before .before .search .last .1 .1 .0) (c .before .before .before .before .before .before .before .before .search .last .1 .1 .1 .0) (c .before .before .before .before .before .before .before .before .search .ensures .0) (c .before .found .given .1)
+edge-returns-2 t c = search-came _ (c .before .before .before .before .before .before .before .before .before .before .before .before .before .before .before .before .before .args .sends) (c .before .before .before .before .before .before .before .before .before .before .before .before .before .before .before .before .before .args .event) _ (c .before .before .before .before .before .before .before .before .search .last .1 .1 .1 .1 .0) (c .before .before .before .before .before .before .before .before .search .last .1 .1 .0) (c .before .before .before .before .before .before .before .before .search .last .1 .1 .1 .0) (c .before .before .before .before .before .before .before .before .search .ensures .0) (c .before .found .given .1)
 
 pub edge-same-length-3 : (t : ℕ) → edge-lts.Need-same-length-3 (edge-calls t) (edge-at t) edge.Post
 edge-same-length-3 t c = search needs
@@ -68,9 +77,9 @@ edge-same-length-3 t c = search needs
 pub edge-same-length-4 : (t : ℕ) → edge-lts.Need-same-length-4 (edge-calls t) (edge-at t) edge.Post
 edge-same-length-4 t c = search needs
 
-pub edge-returns-2 : (t : ℕ) → edge-lts.Need-returns-2 (edge-calls t) (edge-at t) edge.Post
+pub edge-returns-3 : (t : ℕ) → edge-lts.Need-returns-3 (edge-calls t) (edge-at t) edge.Post
 unfolding followed ending give _>>=_
-edge-returns-2 t c = search-came _ (c .before .before .before .before .before .before .before .before .before .before .before .before .before .before .before .args .sends) (c .before .before .before .before .before .before .before .before .before .before .before .before .before .before .before .args .event) _ (c .before .before .before .before .before .before .before .before .search .last .1 .1 .1 .1 .0) (c .before .before .before .before .before .before .before .before .search .last .1 .1 .0) (c .before .before .before .before .before .before .before .before .search .last .1 .1 .1 .0) (c .before .before .before .before .before .before .before .before .search .ensures .0) (c .before .found2 .given .1)
+edge-returns-3 t c = search-came _ (c .before .before .before .before .before .before .before .before .before .before .before .before .before .before .before .before .before .args .sends) (c .before .before .before .before .before .before .before .before .before .before .before .before .before .before .before .before .before .args .event) _ (c .before .before .before .before .before .before .before .before .search .last .1 .1 .1 .1 .0) (c .before .before .before .before .before .before .before .before .search .last .1 .1 .0) (c .before .before .before .before .before .before .before .before .search .last .1 .1 .1 .0) (c .before .before .before .before .before .before .before .before .search .ensures .0) (c .before .found2 .given .1)
 
 pub edge-same-length-5 : (t : ℕ) → edge-lts.Need-same-length-5 (edge-calls t) (edge-at t) edge.Post
 edge-same-length-5 t c = search needs
@@ -78,9 +87,9 @@ edge-same-length-5 t c = search needs
 pub edge-same-length-6 : (t : ℕ) → edge-lts.Need-same-length-6 (edge-calls t) (edge-at t) edge.Post
 edge-same-length-6 t c = search needs
 
-pub edge-returns-3 : (t : ℕ) → edge-lts.Need-returns-3 (edge-calls t) (edge-at t) edge.Post
+pub edge-returns-4 : (t : ℕ) → edge-lts.Need-returns-4 (edge-calls t) (edge-at t) edge.Post
 unfolding followed ending give _>>=_
-edge-returns-3 t c = search-came _ (c .before .before .before .before .before .before .before .before .before .before .before .before .before .before .before .args .sends) (c .before .before .before .before .before .before .before .before .before .before .before .before .before .before .before .args .event) _ (c .before .before .before .before .before .before .before .before .search .last .1 .1 .1 .1 .0) (c .before .before .before .before .before .before .before .before .search .last .1 .1 .0) (c .before .before .before .before .before .before .before .before .search .last .1 .1 .1 .0) (c .before .before .before .before .before .before .before .before .search .ensures .0) (c .before .found3 .given .1)
+edge-returns-4 t c = search-came _ (c .before .before .before .before .before .before .before .before .before .before .before .before .before .before .before .before .before .args .sends) (c .before .before .before .before .before .before .before .before .before .before .before .before .before .before .before .before .before .args .event) _ (c .before .before .before .before .before .before .before .before .search .last .1 .1 .1 .1 .0) (c .before .before .before .before .before .before .before .before .search .last .1 .1 .0) (c .before .before .before .before .before .before .before .before .search .last .1 .1 .1 .0) (c .before .before .before .before .before .before .before .before .search .ensures .0) (c .before .found3 .given .1)
 
 pub edge-same-length-7 : (t : ℕ) → edge-lts.Need-same-length-7 (edge-calls t) (edge-at t) edge.Post
 edge-same-length-7 t c = search needs
@@ -88,9 +97,9 @@ edge-same-length-7 t c = search needs
 pub edge-same-length-8 : (t : ℕ) → edge-lts.Need-same-length-8 (edge-calls t) (edge-at t) edge.Post
 edge-same-length-8 t c = search needs
 
-pub edge-returns-4 : (t : ℕ) → edge-lts.Need-returns-4 (edge-calls t) (edge-at t) edge.Post
+pub edge-returns-5 : (t : ℕ) → edge-lts.Need-returns-5 (edge-calls t) (edge-at t) edge.Post
 unfolding followed ending give _>>=_
-edge-returns-4 t c = search-came _ (c .before .before .before .before .before .before .before .before .before .before .before .before .before .before .before .args .sends) (c .before .before .before .before .before .before .before .before .before .before .before .before .before .before .before .args .event) _ (c .before .before .before .before .before .before .before .before .search .last .1 .1 .1 .1 .0) (c .before .before .before .before .before .before .before .before .search .last .1 .1 .0) (c .before .before .before .before .before .before .before .before .search .last .1 .1 .1 .0) (c .before .before .before .before .before .before .before .before .search .ensures .0) (c .before .found4 .given .1)
+edge-returns-5 t c = search-came _ (c .before .before .before .before .before .before .before .before .before .before .before .before .before .before .before .before .before .args .sends) (c .before .before .before .before .before .before .before .before .before .before .before .before .before .before .before .before .before .args .event) _ (c .before .before .before .before .before .before .before .before .search .last .1 .1 .1 .1 .0) (c .before .before .before .before .before .before .before .before .search .last .1 .1 .0) (c .before .before .before .before .before .before .before .before .search .last .1 .1 .1 .0) (c .before .before .before .before .before .before .before .before .search .ensures .0) (c .before .found4 .given .1)
 
 pub edge-same-length-9 : (t : ℕ) → edge-lts.Need-same-length-9 (edge-calls t) (edge-at t) edge.Post
 edge-same-length-9 t c = search needs
@@ -98,9 +107,9 @@ edge-same-length-9 t c = search needs
 pub edge-same-length-10 : (t : ℕ) → edge-lts.Need-same-length-10 (edge-calls t) (edge-at t) edge.Post
 edge-same-length-10 t c = search needs
 
-pub edge-returns-5 : (t : ℕ) → edge-lts.Need-returns-5 (edge-calls t) (edge-at t) edge.Post
+pub edge-returns-6 : (t : ℕ) → edge-lts.Need-returns-6 (edge-calls t) (edge-at t) edge.Post
 unfolding followed _>>=_
-edge-returns-5 t c = search-fired _ _ _ _ (c .before .before .before .before .before .before .before .before .before .before .before .before .before .before .before .before .before .before .search .last .1 .1 .1 .1 .0) (c .before .before .before .before .before .before .before .before .before .before .before .before .before .before .before .before .before .before .search .last .1 .1 .0) (c .before .before .before .before .before .before .before .before .before .before .before .before .before .before .before .before .before .before .search .last .1 .1 .1 .0) (c .before .before .before .before .before .before .before .before .before .before .before .before .before .before .before .before .before .before .search .ensures .0) (c .before .before .before .before .before .before .before .before .before .before .before .found5 .given .1) _ (c .before .before .before .before .before .fire .ensures) (c .told .ensures _ _)
+edge-returns-6 t c = search-fired _ _ _ _ (c .before .before .before .before .before .before .before .before .before .before .before .before .before .before .before .before .before .before .search .last .1 .1 .1 .1 .0) (c .before .before .before .before .before .before .before .before .before .before .before .before .before .before .before .before .before .before .search .last .1 .1 .0) (c .before .before .before .before .before .before .before .before .before .before .before .before .before .before .before .before .before .before .search .last .1 .1 .1 .0) (c .before .before .before .before .before .before .before .before .before .before .before .before .before .before .before .before .before .before .search .ensures .0) (c .before .before .before .before .before .before .before .before .before .before .before .found5 .given .1) _ (c .before .before .before .before .before .fire .ensures) (c .told .ensures _ _)
 
 pub inside-during-requires : (t : ℕ) → inside-lts.Need-during-requires (inside-calls t) (inside-at t) inside.Post
 inside-during-requires t c κs = search needs

@@ -16,7 +16,7 @@ use Rattle.blocks.specs.Stacks.{stackOf}
 use Rattle.engine.specs.Told.{paidSend, passing}
 use Rattle.engine.proofs.Units.{tested-falls, went-keeps, yes-keeps}
 use Rattle.engine.proofs.Telling.{told-refused, went-then, paid-less}
-use Rattle.engine.proofs.Sending.{send-idle, send-barred, send-runs, sent-told, full-path, pass-came, tried-fails, tried-passes, Acting, act-start, act-end, act-refused, act-over, acting-sent, acting-goes}
+use Rattle.engine.proofs.Sending.{send-idle, send-barred, send-runs, sent-told, full-path, pass-came, tried-fails, tried-passes, Acting, act-start, act-empty, act-end, act-refused, act-over, acting-sent, acting-goes}
 use Rattle.engine.proofs.cycle.attempt.Reads as attempt
 use Rattle.engine.proofs.cycle.+alone+attempt+block+edge+inside+pass+run+search+send+send_from.Lts-attempt as attempt-lts
 use Rattle.engine.proofs.cycle.block.Reads as block
@@ -119,6 +119,9 @@ block-Inv-loop chart h image₀ trace₀ sends owner cells₀ part left₀ taken
 abbrev pub block-μ-loop : block-lts.MeasureT-loop
 block-μ-loop chart h image₀ trace₀ sends owner cells₀ part left₀ taken₀ k₀ k-end image trace cells left taken k = k-end - k
 
+pub block-returns : (t : ℕ) → block-lts.Need-returns (block-calls t) (block-at t) block.Post block-Inv-loop block-μ-loop
+block-returns t c = act-empty (c .before .before .before .before .before .args .chart .now) (c .before .before .before .before .before .args .sends) (c .before .before .before .before .before .args .owner .0) (c .before .before .before .before .before .args .block) _ (c .if1 .taken)
+
 pub block-of-block-requires : (t : ℕ) → block-lts.Need-of-block-requires (block-calls t) (block-at t) block.Post block-Inv-loop block-μ-loop
 block-of-block-requires t c κs = search needs
 
@@ -146,10 +149,10 @@ block-same-length t c = search needs
 pub block-same-length-2 : (t : ℕ) → block-lts.Need-same-length-2 (block-calls t) (block-at t) block.Post block-Inv-loop block-μ-loop
 block-same-length-2 t c = search needs
 
-pub block-returns : (t : ℕ) → block-lts.Need-returns (block-calls t) (block-at t) block.Post block-Inv-loop block-μ-loop
-block-returns t c =
-    act-over (c .before .before .before .before .before .before .before .before .before .before .before .before .before .before .before .before .args .chart .now) (c .before .before .before .before .before .before .before .before .before .before .before .before .before .before .before .before .args .sends) (c .before .before .before .before .before .before .before .before .before .before .before .before .before .before .before .before .args .owner .0) (c .before .before .before .before .before .before .before .before .before .before .before .before .of-block .result .now) (c .before .before .before .before .before .before .before .before .before .before .before .before .before .before .before .before .args .block .count) (c .before .before .before .before .before .before .before .before .before .before .before .loop .k) (stackOf (c .before .before .before .before .before .before .before .before .before .before .before .loop .cells) (c .before .before .before .before .before .before .before .before .before .before .before .loop .taken)) (nowOf (c .before .before .before .before .before .before .before .before .before .before .before .loop .image) (c .before .before .before .before .before .before .before .before .before .before .before .loop .trace) (c .before .before .before .before .before .before .before .before .before .before .before .loop .left)) (c .before .before .before .before .before .before .before .before .before .before .loop-test .taken) (sym (c .before .before .before .before .before .before .before .before .before .is-send .ensures) ∙ c .before .before .before .before .before .before .before .before .if1 .taken) (c .before .before .before .before .before .send-from .result) (c .before .before .before .before .before .send-from .last .1 .1 .0) (c .before .before .before .before .before .send-from .last .1 .1 .1 .0) (c .before .before .before .before .before .send-from .ensures) (c .match .keys2)
-    ∙ c .before .before .before .before .before .before .before .before .before .before .before .loop .inv .same ∙ act-start (c .before .before .before .before .before .before .before .before .before .before .before .before .before .before .before .before .args .chart .now) (c .before .before .before .before .before .before .before .before .before .before .before .before .before .before .before .before .args .sends) (c .before .before .before .before .before .before .before .before .before .before .before .before .before .before .before .before .args .owner .0) (c .before .before .before .before .before .before .before .before .before .before .before .before .before .before .before .before .args .h) (c .before .before .before .before .before .before .before .before .before .before .before .before .before .before .before .before .args .block) (c .before .before .before .before .before .before .before .before .before .before .before .before .of-block .result .now) _ _ (c .before .before .before .before .before .before .before .before .before .before .before .before .before .before .before .before .pre .1) (c .before .before .before .before .before .before .before .before .before .before .before .before .of-block .ensures)
+pub block-returns-2 : (t : ℕ) → block-lts.Need-returns-2 (block-calls t) (block-at t) block.Post block-Inv-loop block-μ-loop
+block-returns-2 t c =
+    act-over (c .before .before .before .before .before .before .before .before .before .before .before .before .before .before .before .before .before .before .args .chart .now) (c .before .before .before .before .before .before .before .before .before .before .before .before .before .before .before .before .before .before .args .sends) (c .before .before .before .before .before .before .before .before .before .before .before .before .before .before .before .before .before .before .args .owner .0) (c .before .before .before .before .before .before .before .before .before .before .before .before .of-block .result .now) (c .before .before .before .before .before .before .before .before .before .before .before .before .before .before .before .before .before .before .args .block .count) (c .before .before .before .before .before .before .before .before .before .before .before .loop .k) (stackOf (c .before .before .before .before .before .before .before .before .before .before .before .loop .cells) (c .before .before .before .before .before .before .before .before .before .before .before .loop .taken)) (nowOf (c .before .before .before .before .before .before .before .before .before .before .before .loop .image) (c .before .before .before .before .before .before .before .before .before .before .before .loop .trace) (c .before .before .before .before .before .before .before .before .before .before .before .loop .left)) (c .before .before .before .before .before .before .before .before .before .before .loop-test .taken) (sym (c .before .before .before .before .before .before .before .before .before .is-send .ensures) ∙ c .before .before .before .before .before .before .before .before .if2 .taken) (c .before .before .before .before .before .send-from .result) (c .before .before .before .before .before .send-from .last .1 .1 .0) (c .before .before .before .before .before .send-from .last .1 .1 .1 .0) (c .before .before .before .before .before .send-from .ensures) (c .match .keys2)
+    ∙ c .before .before .before .before .before .before .before .before .before .before .before .loop .inv .same ∙ act-start (c .before .before .before .before .before .before .before .before .before .before .before .before .before .before .before .before .before .before .args .chart .now) (c .before .before .before .before .before .before .before .before .before .before .before .before .before .before .before .before .before .before .args .sends) (c .before .before .before .before .before .before .before .before .before .before .before .before .before .before .before .before .before .before .args .owner .0) (c .before .before .before .before .before .before .before .before .before .before .before .before .before .before .before .before .before .before .args .h) (c .before .before .before .before .before .before .before .before .before .before .before .before .before .before .before .before .before .before .args .block) (c .before .before .before .before .before .before .before .before .before .before .before .before .of-block .result .now) _ _ (c .before .before .before .before .before .before .before .before .before .before .before .before .before .before .before .before .before .before .pre .1) (c .before .before .before .before .before .before .before .before .before .before .before .before .of-block .ensures)
 
 pub block-slice-aggregate-paid : (t : ℕ) → block-lts.Need-slice-aggregate-paid (block-calls t) (block-at t) block.Post block-Inv-loop block-μ-loop
 block-slice-aggregate-paid t c = search needs
@@ -166,10 +169,10 @@ block-same-length-3 t c = search needs
 pub block-same-length-4 : (t : ℕ) → block-lts.Need-same-length-4 (block-calls t) (block-at t) block.Post block-Inv-loop block-μ-loop
 block-same-length-4 t c = search needs
 
-pub block-returns-2 : (t : ℕ) → block-lts.Need-returns-2 (block-calls t) (block-at t) block.Post block-Inv-loop block-μ-loop
-block-returns-2 t c =
-    act-refused _ (c .before .before .before .before .before .before .before .before .before .before .before .before .before .before .before .before .of-block .result .now) (c .before .before .before .before .before .before .before .before .before .before .before .before .before .before .before .before .before .before .before .before .args .block .count) (c .before .before .before .before .before .before .before .before .before .before .before .before .before .before .before .loop .k) (stackOf (c .before .before .before .before .before .before .before .before .before .before .before .before .before .before .before .loop .cells) (c .before .before .before .before .before .before .before .before .before .before .before .before .before .before .before .loop .taken)) (nowOf (c .before .before .before .before .before .before .before .before .before .before .before .before .before .before .before .loop .image) (c .before .before .before .before .before .before .before .before .before .before .before .before .before .before .before .loop .trace) (c .before .before .before .before .before .before .before .before .before .before .before .before .before .before .before .loop .left)) (c .before .before .before .before .before .before .before .before .before .before .before .before .before .before .loop-test .taken) (sym (c .before .before .before .before .before .before .before .before .before .before .before .before .before .is-send .ensures) ∙ c .before .before .before .before .before .before .before .before .before .before .before .before .if1 .left) (rw (c .before .performed .given .1) at (c .before .before .before .before .before .before .before .before .paid .ensures))
-    ∙ c .before .before .before .before .before .before .before .before .before .before .before .before .before .before .before .loop .inv .same ∙ act-start (c .before .before .before .before .before .before .before .before .before .before .before .before .before .before .before .before .before .before .before .before .args .chart .now) (c .before .before .before .before .before .before .before .before .before .before .before .before .before .before .before .before .before .before .before .before .args .sends) (c .before .before .before .before .before .before .before .before .before .before .before .before .before .before .before .before .before .before .before .before .args .owner .0) (c .before .before .before .before .before .before .before .before .before .before .before .before .before .before .before .before .before .before .before .before .args .h) (c .before .before .before .before .before .before .before .before .before .before .before .before .before .before .before .before .before .before .before .before .args .block) (c .before .before .before .before .before .before .before .before .before .before .before .before .before .before .before .before .of-block .result .now) _ _ (c .before .before .before .before .before .before .before .before .before .before .before .before .before .before .before .before .before .before .before .before .pre .1) (c .before .before .before .before .before .before .before .before .before .before .before .before .before .before .before .before .of-block .ensures)
+pub block-returns-3 : (t : ℕ) → block-lts.Need-returns-3 (block-calls t) (block-at t) block.Post block-Inv-loop block-μ-loop
+block-returns-3 t c =
+    act-refused _ (c .before .before .before .before .before .before .before .before .before .before .before .before .before .before .before .before .of-block .result .now) (c .before .before .before .before .before .before .before .before .before .before .before .before .before .before .before .before .before .before .before .before .before .before .args .block .count) (c .before .before .before .before .before .before .before .before .before .before .before .before .before .before .before .loop .k) (stackOf (c .before .before .before .before .before .before .before .before .before .before .before .before .before .before .before .loop .cells) (c .before .before .before .before .before .before .before .before .before .before .before .before .before .before .before .loop .taken)) (nowOf (c .before .before .before .before .before .before .before .before .before .before .before .before .before .before .before .loop .image) (c .before .before .before .before .before .before .before .before .before .before .before .before .before .before .before .loop .trace) (c .before .before .before .before .before .before .before .before .before .before .before .before .before .before .before .loop .left)) (c .before .before .before .before .before .before .before .before .before .before .before .before .before .before .loop-test .taken) (sym (c .before .before .before .before .before .before .before .before .before .before .before .before .before .is-send .ensures) ∙ c .before .before .before .before .before .before .before .before .before .before .before .before .if2 .left) (rw (c .before .performed .given .1) at (c .before .before .before .before .before .before .before .before .paid .ensures))
+    ∙ c .before .before .before .before .before .before .before .before .before .before .before .before .before .before .before .loop .inv .same ∙ act-start (c .before .before .before .before .before .before .before .before .before .before .before .before .before .before .before .before .before .before .before .before .before .before .args .chart .now) (c .before .before .before .before .before .before .before .before .before .before .before .before .before .before .before .before .before .before .before .before .before .before .args .sends) (c .before .before .before .before .before .before .before .before .before .before .before .before .before .before .before .before .before .before .before .before .before .before .args .owner .0) (c .before .before .before .before .before .before .before .before .before .before .before .before .before .before .before .before .before .before .before .before .before .before .args .h) (c .before .before .before .before .before .before .before .before .before .before .before .before .before .before .before .before .before .before .before .before .before .before .args .block) (c .before .before .before .before .before .before .before .before .before .before .before .before .before .before .before .before .of-block .result .now) _ _ (c .before .before .before .before .before .before .before .before .before .before .before .before .before .before .before .before .before .before .before .before .before .before .pre .1) (c .before .before .before .before .before .before .before .before .before .before .before .before .before .before .before .before .of-block .ensures)
 
 pub block-enum-known-performed-2 : (t : ℕ) → block-lts.Need-enum-known-performed-2 (block-calls t) (block-at t) block.Post block-Inv-loop block-μ-loop
 block-enum-known-performed-2 t c = search needs
@@ -183,9 +186,9 @@ block-loop-less t c = search needs
 pub block-loop-again : (t : ℕ) → block-lts.Need-loop-again (block-calls t) (block-at t) block.Post block-Inv-loop block-μ-loop
 block-loop-again t c =
     ⊎-elim
-    (λ w. acting-sent (c .before .before .before .before .before .before .before .before .args .chart .now) (c .before .before .before .before .before .before .before .before .args .sends) (c .before .before .before .before .before .before .before .before .args .owner .0) (c .before .before .before .loop .inv) (c .before .before .loop-test .taken) (c .before .is-send .ensures) (w .3 .last .1 .1 .0) (w .3 .last .1 .1 .1 .0) (w .0 .taken) (w .3 .ensures) (w .9 .given .1) (search needs) (search needs) (w .11) (w .12) (w .14) (w .13) (w .15))
-    (λ w. acting-goes (c .before .before .before .before .before .before .before .before .args .chart .now) (c .before .before .before .before .before .before .before .before .args .sends) (c .before .before .before .before .before .before .before .before .args .owner .0) (c .before .before .before .loop .inv) (c .before .before .loop-test .taken) (c .before .is-send .ensures) (w .4 .last .1 .1 .1 .1 .0) (w .4 .last .1 .1 .1 .1 .1 .0) (w .0 .left) (w .4 .last .1 .1 .0) (w .4 .ensures) (w .11 .given .1) (search needs) (search needs) (search needs) (w .14) (w .15) (w .17) (w .16) (w .18))
-    (c .if1 .came)
+    (λ w. acting-sent (c .before .before .before .before .before .before .before .before .before .before .args .chart .now) (c .before .before .before .before .before .before .before .before .before .before .args .sends) (c .before .before .before .before .before .before .before .before .before .before .args .owner .0) (c .before .before .before .loop .inv) (c .before .before .loop-test .taken) (c .before .is-send .ensures) (w .3 .last .1 .1 .0) (w .3 .last .1 .1 .1 .0) (w .0 .taken) (w .3 .ensures) (w .9 .given .1) (search needs) (search needs) (w .11) (w .12) (w .14) (w .13) (w .15))
+    (λ w. acting-goes (c .before .before .before .before .before .before .before .before .before .before .args .chart .now) (c .before .before .before .before .before .before .before .before .before .before .args .sends) (c .before .before .before .before .before .before .before .before .before .before .args .owner .0) (c .before .before .before .loop .inv) (c .before .before .loop-test .taken) (c .before .is-send .ensures) (w .4 .last .1 .1 .1 .1 .0) (w .4 .last .1 .1 .1 .1 .1 .0) (w .0 .left) (w .4 .last .1 .1 .0) (w .4 .ensures) (w .11 .given .1) (search needs) (search needs) (search needs) (w .14) (w .15) (w .17) (w .16) (w .18))
+    (c .if2 .came)
 
 pub block-same-length-5 : (t : ℕ) → block-lts.Need-same-length-5 (block-calls t) (block-at t) block.Post block-Inv-loop block-μ-loop
 block-same-length-5 t c = search needs
@@ -193,10 +196,10 @@ block-same-length-5 t c = search needs
 pub block-same-length-6 : (t : ℕ) → block-lts.Need-same-length-6 (block-calls t) (block-at t) block.Post block-Inv-loop block-μ-loop
 block-same-length-6 t c = search needs
 
-pub block-returns-3 : (t : ℕ) → block-lts.Need-returns-3 (block-calls t) (block-at t) block.Post block-Inv-loop block-μ-loop
-block-returns-3 t c =
-    act-end _ (c .before .before .of-block .result .now) (c .before .before .before .before .before .before .args .block .count) (c .before .loop .k) (stackOf (c .before .loop .cells) (c .before .loop .taken)) (nowOf (c .before .loop .image) (c .before .loop .trace) (c .before .loop .left)) (c .loop-test .left)
-    ∙ c .before .loop .inv .same ∙ act-start (c .before .before .before .before .before .before .args .chart .now) (c .before .before .before .before .before .before .args .sends) (c .before .before .before .before .before .before .args .owner .0) (c .before .before .before .before .before .before .args .h) (c .before .before .before .before .before .before .args .block) (c .before .before .of-block .result .now) _ _ (c .before .before .before .before .before .before .pre .1) (c .before .before .of-block .ensures)
+pub block-returns-4 : (t : ℕ) → block-lts.Need-returns-4 (block-calls t) (block-at t) block.Post block-Inv-loop block-μ-loop
+block-returns-4 t c =
+    act-end _ (c .before .before .of-block .result .now) (c .before .before .before .before .before .before .before .before .args .block .count) (c .before .loop .k) (stackOf (c .before .loop .cells) (c .before .loop .taken)) (nowOf (c .before .loop .image) (c .before .loop .trace) (c .before .loop .left)) (c .loop-test .left)
+    ∙ c .before .loop .inv .same ∙ act-start (c .before .before .before .before .before .before .before .before .args .chart .now) (c .before .before .before .before .before .before .before .before .args .sends) (c .before .before .before .before .before .before .before .before .args .owner .0) (c .before .before .before .before .before .before .before .before .args .h) (c .before .before .before .before .before .before .before .before .args .block) (c .before .before .of-block .result .now) _ _ (c .before .before .before .before .before .before .before .before .pre .1) (c .before .before .of-block .ensures)
 
 pub pass-passed-requires : (t : ℕ) → pass-lts.Need-passed-requires (pass-calls t) (pass-at t) pass.Post
 pass-passed-requires t c κs = search needs
