@@ -43,8 +43,9 @@ uint64_t step(const uint8_t *chart, size_t chart_bytes, uint8_t *board, size_t b
 /* A lift is made fresh for a chart: it writes that lift's part of the board alone. The answer is the refusal: 0, 1 to 12. */
 uint64_t fresh(const uint8_t *chart, size_t chart_bytes, uint8_t *board, size_t board_bytes, uint32_t lift);
 
-/* The bound of a chart, in units. It writes nothing. The answer is refusal + 256 x bound: see afraulenc_unpack_bound. Refusals:
- * 1 to 11 of the chart, 21 it sends, 22 segments lead from a junction back to it, 23 the bound is over 1,000,000. */
+/* The bound of a chart, in units: a step of that chart with this allowance or more is never refused with 16. It writes nothing.
+ * The answer is refusal + 256 x bound: see afraulenc_unpack_bound. Refusals: 1 to 11 of the chart, 21 it sends, 22 segments lead
+ * from a junction back to it, 23 the bound is over 1,000,000. */
 uint64_t bound(const uint8_t *chart, size_t chart_bytes);
 
 /* A step's answer. All but the refusal is 0 where that is not 0. */

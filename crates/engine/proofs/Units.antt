@@ -10,8 +10,9 @@ use Rattle.rules.specs.Image.{Image}
 use Rattle.rules.specs.Doing.{Now, Doing, _>>=_}
 use Rattle.rules.specs.Block.{Stack}
 use Rattle.rules.specs.Search.{Found, reached, nowhere, ended, cut}
-use Rattle.rules.proofs.Keeping.{Keeps, pay-keeps, noSend-keeps, instruct-keeps}
-use Rattle.rules.proofs.Spending.{both-went, Spends, fewer, give-spends, refuse-spends, bind-spends, then-spends, if-spends, pay-then-strict, note-spends, sentBy-spends, perform-spends, passes-spends, search-spends, fire-spends, send-spends}
+use Rattle.rules.proofs.Closing.{noSend-has, instruct-has}
+use Rattle.rules.proofs.Keeping.{Keeps}
+use Rattle.rules.proofs.Spending.{both-went, Spends, spends, give-spends, refuse-spends, bind-spends, then-spends, if-spends, pay-then-strict, note-spends, sentBy-spends, perform-spends, passes-spends, search-spends, fire-spends, send-spends}
 use Rattle.doing.specs.Held.{nowOf, outcomeOf, verdictOf}
 use Rattle.doing.specs.declared.Counts.{Counts}
 use Rattle.doing.specs.declared.Done.{Done}
@@ -35,7 +36,7 @@ bind-falls f sf {m} fm =
 -- an instruction of a block, and what the engine's own definitions do
 pub paidFor-spends : (i : Instruction) (st : Stack) → Spends (paidFor i st)
 unfolding paidFor instructed
-paidFor-spends i st = then-spends (pay-keeps fewer) (instruct-keeps fewer (noSend-keeps fewer) (i .op) i st)
+paidFor-spends i st = then-spends (spends .pays) (instruct-has spends (noSend-has spends) (i .op) i st)
 
 module _ (c : Chart) where
   pub tested-falls : (e : ℕ) (t : Segment) → Falls (tested c e t)

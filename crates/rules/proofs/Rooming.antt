@@ -7,7 +7,8 @@ use lib.ListN.{length, length-append}
 use Rattle.rules.specs.Chart.{Chart}
 use Rattle.rules.specs.Doing.{Now, went}
 use Rattle.rules.specs.Run.{step}
-use Rattle.rules.proofs.Keeping.{Lawful, step-keeps}
+use Rattle.rules.proofs.Closing.{step-has}
+use Rattle.rules.proofs.Keeping.{Lawful, keeps-closed}
 
 abbrev pub Rooms : Now → Now → Type 0
 Rooms n n′ = length (n′ .trace) + n′ .room ≡ length (n .trace) + n .room
@@ -23,4 +24,4 @@ rooms =
     }
 
 pub step-rooms : (c : Chart) (e : ℕ) (n : Now) (a : Unit {0}) (n′ : Now) → step c e n ≡ went a n′ → length (n′ .trace) + n′ .room ≡ length (n .trace) + n .room
-step-rooms c e n a n′ w = step-keeps rooms c e .at n a n′ w
+step-rooms c e n a n′ w = step-has (keeps-closed rooms) c e .at n a n′ w

@@ -12,7 +12,8 @@ use Rattle.rules.specs.Block.{Stack, Sending, Sent, sentBy, perform}
 use Rattle.rules.specs.Search.{passes, search}
 use Rattle.rules.specs.Fire.{fire}
 use Rattle.rules.specs.Run.{run, send, step}
-use Rattle.rules.proofs.Keeping.{Keeps, Lawful, paid-keeps, give-keeps, refuse-keeps, note-keeps, bind-keeps, then-keeps, if-keeps, sentBy-keeps, perform-keeps, passes-keeps, search-keeps, fire-keeps, run-keeps, send-keeps, step-keeps}
+use Rattle.rules.proofs.Closing.{Closed, _>>_ as then-has, if-has, sentBy-has, perform-has, passes-has, search-has, fire-has, run-has, send-has, step-has}
+use Rattle.rules.proofs.Keeping.{Keeps, Lawful, paid-keeps, refuse-keeps, keeps-closed}
 pub use Rattle.rules.proofs.Keeping.{both-went}
 
 abbrev pub Fewer : Now → Now → Type 0
@@ -31,27 +32,30 @@ fewer =
       changed = λ n im. omega arith;
     }
 
+pub spends : Closed (λ A m. Spends m)
+spends = keeps-closed fewer
+
 -- the doings and the ways to join them
 
 module _ {A : Type 0} where
   pub give-spends : (a : A) → Spends (give a)
-  give-spends a = give-keeps fewer a
+  give-spends a = spends .gives a
 
   pub refuse-spends : (k : ℕ) → Spends (refuse {A = A} k)
-  refuse-spends k = refuse-keeps fewer k
+  refuse-spends k = refuse-keeps Fewer k
 
   pub if-spends : {m k : Doing A} (t : Bool) → Spends m → Spends k → Spends (if t then m else k)
-  if-spends t sm sk = if-keeps fewer t sm sk
+  if-spends t sm sk = if-has spends t sm sk
 
 pub note-spends : (act : Act) (k : ℕ) → Spends (note act k)
-note-spends act k = note-keeps fewer act k
+note-spends act k = spends .notes act k
 
 module _ {A B : Type 0} where
   pub bind-spends : {m : Doing A} {f : A → Doing B} → Spends m → ((a : A) → Spends (f a)) → Spends (m >>= f)
-  bind-spends sm sf = bind-keeps fewer sm sf
+  bind-spends sm sf = spends .binds sm sf
 
   pub then-spends : {m : Doing A} {k : Doing B} → Spends m → Spends k → Spends (m >> k)
-  then-spends sm sk = then-keeps fewer sm sk
+  then-spends sm sk = then-has spends sm sk
 
 -- one unit goes
 pub pay-strict : (n : Now) (a : Unit {0}) (n′ : Now) → pay n ≡ went a n′ → n′ .units < n .units
@@ -72,27 +76,27 @@ module _ {A : Type 0} where
 -- the definitions of the rules
 
 pub sentBy-spends : (owner : State) {sending : Sending} → ((e : ℕ) (b : State) → Spends (sending e b)) → (e : ℕ) (b : State) → Spends (sentBy owner sending e b)
-sentBy-spends owner ss e b = sentBy-keeps fewer owner ss e b
+sentBy-spends owner ss e b = sentBy-has spends ss owner e b
 
 pub perform-spends : {sent : Sent} → ((e : ℕ) (b : State) → Spends (sent e b)) → (st : Stack) (is : List Instruction) → Spends (perform sent st is)
-perform-spends ss st is = perform-keeps fewer ss st is
+perform-spends ss st is = perform-has spends ss st is
 
 module _ (c : Chart) where
   pub passes-spends : (e : ℕ) (t : Segment) → Spends (passes c e t)
-  passes-spends e t = passes-keeps fewer c e t
+  passes-spends e t = passes-has spends c e t
 
   module _ {sending : Sending} (ss : (e : ℕ) (b : State) → Spends (sending e b)) (e : ℕ) where
     pub search-spends : (source : State) (ts : List Segment) → Spends (search c sending e source ts)
-    search-spends source ts = search-keeps fewer c ss e source ts
+    search-spends source ts = search-has spends c ss e source ts
 
     pub run-spends : (d : ℕ) (p : State) → Spends (run c sending e d p)
-    run-spends d p = run-keeps fewer c ss e d p
+    run-spends d p = run-has spends c ss e d p
 
   pub fire-spends : (source target : State) (path : List Segment) → Spends (fire c source target path)
-  fire-spends source target path = fire-keeps fewer c source target path
+  fire-spends source target path = fire-has spends c source target path
 
   pub send-spends : (n e : ℕ) (b : State) → Spends (send c n e b)
-  send-spends n e b = send-keeps fewer c n e b
+  send-spends n e b = send-has spends c n e b
 
   pub step-spends : (e : ℕ) → Spends (step c e)
-  step-spends e = step-keeps fewer c e
+  step-spends e = step-has spends c e

@@ -1,0 +1,91 @@
+-- The ways in which each call ends: refused by a test, refused by the step itself, or done. What holds of every such answer holds
+-- of the call. Assumes nothing.
+use mathlib.Core.Path.{_≡_, refl}
+use mathlib.Core.Bool.{true}
+use mathlib.Core.List.{[]}
+use Prim.Native.Nat.{ℕ, zero, suc}
+use Rattle.rules.specs.Bytes.{Bytes}
+use Rattle.rules.specs.Lists.{_else_}
+use Rattle.rules.specs.Chart.{Chart}
+use Rattle.rules.specs.Accept.{chartRefusal}
+use Rattle.rules.specs.Image.{accepted, freshImage}
+use Rattle.rules.specs.Doing.{Refusal, because, Now, Outcome, refused, went}
+use Rattle.rules.specs.Run.{step}
+use Rattle.rules.specs.Bound.{boundRefusal, bound}
+use Rattle.rules.specs.Calls.{Board, Answer, part, withPart, partRefusal, numberOnly, freshTested, freshCall, boundTested, boundCall, stepRefusal, begin, stepAnswer, stepTested, stepCall}
+use Rattle.rules.proofs.Laws.{unless-zero, else-zero}
+use Rattle.rules.proofs.Taken.{right}
+use Rattle.rules.proofs.Triple.{Ended}
+use Rattle.rules.proofs.Bounded.{Bounded}
+use Rattle.rules.proofs.Shape.{Good}
+use Rattle.rules.proofs.Stepping.{t-step}
+use Rattle.rules.proofs.Boards.{Has, part-has}
+
+-- what a step's tests give
+pub record Begun (c : Chart) (board : Board) (k : ℕ) : Type 0 where
+  pub chart : chartRefusal c ≡ 0
+  pub has : Has board k
+  pub taken : accepted (part board k) c ≡ true
+
+module _ (c : Chart) (board : Board) (k : ℕ) where
+  module _ (P : Answer → Type 0) (refusing : (r : ℕ) → P (numberOnly (because (suc r)) board []))
+      (making : chartRefusal c ≡ 0 → Has board k → P (numberOnly (because 0) (withPart board k (freshImage c)) [])) where
+    fresh-by : (r : ℕ) → (chartRefusal c else partRefusal board k) ≡ r → P (freshTested r c board k)
+    unfolding freshTested
+    fresh-by zero q = let (a, b) = else-zero (chartRefusal c) (partRefusal board k) q in making a (part-has board k b)
+    fresh-by (suc r) q = refusing r
+
+    pub fresh-ends : P (freshCall c board k)
+    unfolding freshCall
+    fresh-ends = fresh-by (chartRefusal c else partRefusal board k) refl
+
+  module _ (e allowance : ℕ) where
+    begun : stepRefusal c board k e allowance ≡ 0 → Begun c board k
+    unfolding stepRefusal
+    begun q =
+        let (a, q1) = else-zero (chartRefusal c) _ q in
+        let (b, q2) = else-zero (partRefusal board k) _ q1 in
+        let (t, q3) = unless-zero 12 _ _ q2 in
+        record { chart = a; has = part-has board k b; taken = t }
+
+    module _ (trace : Bytes) (P : Answer → Type 0)
+        (refusing : (r : ℕ) → stepRefusal c board k e allowance ≡ suc r → P (numberOnly (because (suc r)) board trace))
+        (stopping : Begun c board k → (r : Refusal) → step c e (begin (part board k) trace allowance) ≡ refused r
+        → P (numberOnly r board trace))
+        (going : Begun c board k → (u : Unit {0}) (n : Now) → step c e (begin (part board k) trace allowance) ≡ went u n
+        → P (stepAnswer board trace k allowance (went u n))) where
+      step-goes : Begun c board k → (o : Outcome (Unit {0})) → step c e (begin (part board k) trace allowance) ≡ o
+          → P (stepAnswer board trace k allowance o)
+      unfolding stepAnswer
+      step-goes b (refused r) q = stopping b r q
+      step-goes b (went u n) q = going b u n q
+
+      step-by : (r : ℕ) → stepRefusal c board k e allowance ≡ r → P (stepTested r c board trace k e allowance)
+      unfolding stepTested
+      step-by zero q = step-goes (begun q) (step c e (begin (part board k) trace allowance)) refl
+      step-by (suc r) q = refusing r q
+
+      pub step-ends : P (stepCall c board trace k e allowance)
+      unfolding stepCall
+      step-ends = step-by (stepRefusal c board k e allowance) refl
+
+module _ (c : Chart) (P : Answer → Type 0)
+    (refusing : (r : ℕ) → (chartRefusal c else boundRefusal c) ≡ suc r → P (numberOnly (because (suc r)) [] []))
+    (giving : chartRefusal c ≡ 0 → boundRefusal c ≡ 0 → P (boundTested 0 c)) where
+  bound-by : (r : ℕ) → (chartRefusal c else boundRefusal c) ≡ r → P (boundTested r c)
+  unfolding boundTested
+  bound-by zero q = let (a, b) = else-zero (chartRefusal c) (boundRefusal c) q in giving a b
+  bound-by (suc r) q = refusing r q
+
+  pub bound-ends : P (boundCall c)
+  unfolding boundCall
+  bound-ends = bound-by (chartRefusal c else boundRefusal c) refl
+
+-- how a step ends that passed its tests: in demand 3's shape if it went, and as its bound has it
+pub ending : (c : Chart) (board : Board) (trace : Bytes) (k e allowance : ℕ) → Begun c board k → (o : Outcome (Unit {0}))
+    → step c e (begin (part board k) trace allowance) ≡ o → Ended (Bounded c) (bound c) allowance (λ (_ : Unit {0}). Good c) o
+unfolding begin
+ending c board trace k e allowance b o w =
+    let t : Ended (Bounded c) (bound c) allowance (λ (_ : Unit {0}). Good c) (step c e (begin (part board k) trace allowance)) =
+    t-step c (right c (b .chart)) e .at (begin (part board k) trace allowance) (b .taken) in
+    rw w at t

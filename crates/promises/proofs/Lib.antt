@@ -1,0 +1,12 @@
+pub mod Calling
+pub mod Numbers
+pub mod Writing
+pub mod Lasting
+pub mod Shaping
+pub mod Kept
+pub mod Elsewhere
+pub mod Starting
+pub mod Units
+pub mod Refused
+pub mod Unpacking
+pub mod Example

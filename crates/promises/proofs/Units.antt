@@ -1,0 +1,72 @@
+-- Units: where the chart has a bound it is enough, no step takes more, and more units than are enough change nothing. Assumes nothing.
+use mathlib.Core.Path.{_≡_, refl}
+use mathlib.Core.Logic.{inl, inr}
+use Prim.Native.Nat.{ℕ, zero, suc, _+_, _-_, _≤_}
+use native.Mathlib.Omega.{arith}
+use borrow.Author.Tests.{le-leb}
+use Rattle.rules.specs.Bytes.{Bytes}
+use Rattle.rules.specs.Chart.{Chart}
+use Rattle.rules.specs.Doing.{because, Outcome, refused, went, mostUnits}
+use Rattle.rules.specs.Run.{step}
+use Rattle.rules.specs.Bound.{boundRefusal, bound}
+use Rattle.rules.specs.Calls.{Board, part, numberOnly, boundTested, boundCall, stepRefusal, begin, stepAnswer, stepTested, stepCall}
+use Rattle.rules.proofs.Taken.{right}
+use Rattle.rules.proofs.Steady.{Same, steady-step}
+use Rattle.rules.proofs.Bounded.{Bounded, bounded}
+use Rattle.promises.proofs.Calling.{Begun, ending, step-ends, bound-ends}
+use Rattle.promises.proofs.Numbers.{tests-most}
+
+-- what the bound call answers
+given : (c : Chart) → boundCall c .refusal .number ≡ 0 → (boundRefusal c ≡ 0) × (boundCall c .bound ≡ bound c)
+unfolding numberOnly because boundTested
+given c =
+    bound-ends c (λ a. a .refusal .number ≡ 0 → (boundRefusal c ≡ 0) × (a .bound ≡ bound c)) (λ r q e. absurd (omega arith))
+    (λ z q e. (q, refl))
+
+module _ (c : Chart) (gives : boundCall c .refusal .number ≡ 0) (board : Board) (trace : Bytes) (k e allowance : ℕ) where
+  has : Begun c board k → Bounded c
+  has b = bounded c (right c (b .chart)) (given c gives .0)
+
+  -- the bound is enough
+  pub bound-suffices : boundCall c .bound ≤ allowance → stepCall c board trace k e allowance .refusal .number ≡ 16 → ⊥
+  unfolding numberOnly because stepAnswer
+  bound-suffices l =
+      step-ends c board k e allowance trace (λ a. a .refusal .number ≡ 16 → ⊥)
+      (λ r q n. omega (arith, tests-most c board k e allowance))
+      (λ b r q. ending c board trace k e allowance b (refused r) q (has b) (omega (arith, given c gives .1)))
+      (λ b u n q. λ z. omega arith)
+
+  -- and no step takes more
+  pub units-within : stepCall c board trace k e allowance .units ≤ boundCall c .bound
+  unfolding numberOnly stepAnswer
+  units-within =
+      step-ends c board k e allowance trace (λ a. a .units ≤ boundCall c .bound) (λ r q. omega arith) (λ b r q. omega arith)
+      (λ b u n q. omega (arith, given c gives .1, ending c board trace k e allowance b (went u n) q .1 (has b)))
+
+-- more units change nothing
+module _ (c : Chart) (board : Board) (trace : Bytes) (k e allowance extra : ℕ) where
+  same-tests : allowance + extra ≤ mostUnits → stepRefusal c board k e (allowance + extra) ≡ stepRefusal c board k e allowance
+  unfolding stepRefusal
+  same-tests l = rw (le-leb (allowance + extra) mostUnits l, le-leb allowance mostUnits (omega arith))
+
+  same-answer : (o o′ : Outcome (Unit {0})) → Same extra o o′ → (stepAnswer board trace k allowance o .refusal .number ≡ 16 → ⊥)
+      → stepAnswer board trace k (allowance + extra) o′ ≡ stepAnswer board trace k allowance o
+  unfolding stepAnswer numberOnly
+  same-answer (refused r) o′ (inl q) d = absurd (d q)
+  same-answer (refused r) o′ (inr q) d = rw q
+  same-answer (went u n) o′ q d =
+      let z : allowance + extra - (n .units + extra) ≡ allowance - n .units = omega arith in
+      rw (q, z)
+
+  same-tested : (r : ℕ) → (stepTested r c board trace k e allowance .refusal .number ≡ 16 → ⊥)
+      → stepTested r c board trace k e (allowance + extra) ≡ stepTested r c board trace k e allowance
+  unfolding stepTested begin
+  same-tested zero d =
+      same-answer (step c e (begin (part board k) trace allowance)) (step c e (begin (part board k) trace (allowance + extra)))
+      (steady-step c e .at extra (begin (part board k) trace allowance)) d
+  same-tested (suc r) d = refl
+
+  pub more-units : allowance + extra ≤ mostUnits → (stepCall c board trace k e allowance .refusal .number ≡ 16 → ⊥)
+      → stepCall c board trace k e (allowance + extra) ≡ stepCall c board trace k e allowance
+  unfolding stepCall
+  more-units l d = rw (same-tests l) (same-tested (stepRefusal c board k e allowance) d)

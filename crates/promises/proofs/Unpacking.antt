@@ -1,0 +1,49 @@
+-- What a host takes out of the one number it is handed: each part as the call answers it, since the refusals are below 256 and the
+-- items at most 256. Assumes nothing.
+use mathlib.Core.Path.{_≡_}
+use Prim.Native.Nat.{ℕ, suc, _+_, _*_, _-_, _/_, _%_, _≤_, _<_}
+use native.Mathlib.Omega.{arith}
+use lib.ListN.{length}
+use Rattle.rules.specs.Bytes.{Bytes}
+use Rattle.rules.specs.Chart.{Chart}
+use Rattle.rules.specs.Doing.{because, Now, went}
+use Rattle.rules.specs.Run.{step}
+use Rattle.rules.specs.Calls.{Board, Answer, part, numberOnly, freshCall, boundTested, boundCall, begin, stepAnswer, stepCall, packed}
+use Rattle.rules.proofs.Refusing.{step-refuses}
+use Rattle.rules.proofs.Rooming.{step-rooms}
+use Rattle.promises.proofs.Calling.{fresh-ends, step-ends, bound-ends}
+use Rattle.promises.proofs.Numbers.{tests-most, bound-tests-most}
+
+-- what `afraulenc_unpack` takes out
+abbrev pub Unpacked : Answer → Type 0
+Unpacked a = (packed a % 256 ≡ a .refusal .number) × (packed a / 256 % 512 ≡ a .items) × (packed a / 131072 ≡ a .units)
+
+by-parts : (number items units : ℕ) → number < 256 → items < 512
+    → ((number + 256 * (items + 0) + 131072 * units) % 256 ≡ number)
+    × ((number + 256 * (items + 0) + 131072 * units) / 256 % 512 ≡ items)
+    × ((number + 256 * (items + 0) + 131072 * units) / 131072 ≡ units)
+by-parts number items units h g = (omega arith, omega arith, omega arith)
+
+pub step-unpacked : (c : Chart) (board : Board) (trace : Bytes) (k e allowance : ℕ) → Unpacked (stepCall c board trace k e allowance)
+unfolding packed numberOnly because stepAnswer begin
+step-unpacked c board trace k e allowance =
+    step-ends c board k e allowance trace Unpacked
+    (λ r q. by-parts (suc r) 0 0 (omega (arith, tests-most c board k e allowance)) (omega arith))
+    (λ b r q. by-parts (r .number) 0 0 (omega (arith, step-refuses c e _ r q .1)) (omega arith))
+    (λ b u n w. by-parts 0 (length (n .trace)) (allowance - n .units) (omega arith) (omega (arith, few u n w)))
+  where
+    few : (u : Unit {0}) (n : Now) → step c e (begin (part board k) trace allowance) ≡ went u n → length (n .trace) ≤ 256
+    few u n w = let q = step-rooms c e (begin (part board k) trace allowance) u n w in omega arith
+
+-- the answer of fresh is its refusal's number
+pub fresh-unpacked : (c : Chart) (board : Board) (k : ℕ) → packed (freshCall c board k) ≡ freshCall c board k .refusal .number
+unfolding packed numberOnly
+fresh-unpacked c board k =
+    fresh-ends c board k (λ a. packed a ≡ a .refusal .number) (λ r. omega arith) (λ z h. omega arith)
+
+-- what `afraulenc_unpack_bound` takes out
+pub bound-unpacked : (c : Chart) → (packed (boundCall c) % 256 ≡ boundCall c .refusal .number) × (packed (boundCall c) / 256 ≡ boundCall c .bound)
+unfolding packed numberOnly because boundTested
+bound-unpacked c =
+    bound-ends c (λ a. (packed a % 256 ≡ a .refusal .number) × (packed a / 256 ≡ a .bound))
+    (λ r q. (omega (arith, bound-tests-most c), omega (arith, bound-tests-most c))) (λ z q. (omega arith, omega arith))

@@ -1,0 +1,59 @@
+-- The tree of states: what is below a state, and how deep a state is. Assumes nothing.
+use mathlib.Core.Path.{_≡_, refl, sym, subst}
+use mathlib.Core.Bool.{false}
+use Prim.Native.Nat.{ℕ, zero, suc, _≤_, _<_}
+use native.Mathlib.Omega.{arith}
+use lib.Dec.{eqb}
+use borrow.Author.Tests.{ne-eqb}
+use Rattle.rules.specs.Lists.{any, isIn}
+use Rattle.rules.specs.Chart.{State, Chart, states, parent, line, over}
+use Rattle.rules.proofs.Laws.{clash, or-no, if-false}
+use Rattle.rules.proofs.Taken.{Child, Tree}
+
+-- x is k, or is below k
+pub data Below (c : Chart) (k : State) : State → Type 0 where
+  here : Below c k k
+  under : {x : State} → 0 < x → x < states c → Below c k (parent c x) → Below c k x
+
+-- s is at least n deep
+abbrev pub Deep : Chart → ℕ → State → Type 0
+Deep c zero s = Unit {0}
+Deep c (suc n) s = isIn 0 (line c n s) ≡ false
+
+module _ (c : Chart) (tr : Tree c) where
+  pub below-le : {k x : State} → Below c k x → k ≤ x
+  below-le here = omega arith
+  below-le (under {x = x} p h b) = let l = below-le b in let u = tr .up x h p in omega arith
+
+  pub below-trans : {k j x : State} → Below c k j → Below c j x → Below c k x
+  below-trans a here = a
+  below-trans a (under p h b) = under p h (below-trans a b)
+
+  pub child-below : {s k : State} → Child c s k → Below c s k
+  child-below {s} ch = under (ch .above) (ch .state) (subst (λ (p : State). Below c s p) (sym (ch .of)) here)
+
+  pub child-more : {s k : State} → Child c s k → s < k
+  child-more {s} {k} ch = let u = tr .up k (ch .state) (ch .above) in omega arith
+
+  -- a state is not below its child
+  pub not-below : {s k : State} → Child c s k → Below c k s → ⊥
+  not-below ch b = let l = below-le b in let u = child-more ch in omega arith
+
+  -- of two children neither is below the other
+  pub sibling : {s j k : State} → Child c s j → Child c s k → (k ≡ j → ⊥) → Below c j k → ⊥
+  sibling a b d here = d refl
+  sibling a b d (under p h l) = let g = below-le l in let u = child-more a in omega arith
+
+  pub low : {x : State} → x < states c → x < 64
+  low h = omega arith
+
+  pub deep-child : (n : ℕ) {s k : State} → Deep c n s → Child c s k → Deep c (suc n) k
+  unfolding isIn any line
+  deep-child zero {s} {k} d ch = or-no (eqb 0 k) _ (ne-eqb 0 k (λ q. omega arith)) refl
+  deep-child (suc n) {s} {k} d ch =
+      or-no (eqb 0 k) _ (ne-eqb 0 k (λ q. omega arith))
+      (rw (if-false (eqb k 0) _ _ (ne-eqb k 0 (λ q. omega arith)), ch .of) d)
+
+  pub deep-end : (s : State) → s < states c → Deep c 9 s → ⊥
+  unfolding over
+  deep-end s h d = clash (tr .depth s h) d
