@@ -3,8 +3,7 @@
 -- Assumes nothing.
 use mathlib.Core.Path.{_≡_, sym, ap, _∙_}
 use Prim.Native.Nat.{ℕ, zero, suc, _+_, _-_, _*_, _/_, _%_, _^_, _≤_, _<_}
-use native.Mathlib.Nat.{one-mul, mod-eq-of-lt, mod-lt, div-eq-of-lt, div-div-eq-div-mul, pow-suc, pow-succ'}
-use native.Mathlib.Decide.{decLt}
+use native.Mathlib.Nat.{one-mul, mod-eq-of-lt, mod-lt, div-div-eq-div-mul, pow-suc, pow-succ'}
 use native.Mathlib.Omega.{arith}
 use lib.Pow.{pow-lt}
 use lib.Dec.{eqb, lit<}
@@ -14,6 +13,7 @@ use mir.Syntax.{w8}
 use mir.Val.{Fits}
 use borrow.Author.Tests.{eq-eqb, ne-eqb}
 use Rattle.rules.specs.Bytes.{Bytes, byte, put}
+use Rattle.rules.proofs.Bits.{held}
 use Rattle.rules.specs.Image.{isActive, activate, deactivate}
 use Rattle.fields.proofs.Laws.{put-one}
 
@@ -25,14 +25,6 @@ room (suc n) (suc k) b l h e =
     let half : b / 2 / 2 ^ k ≡ b / 2 ^ suc k = div-div-eq-div-mul b 2 (2 ^ k) ∙ ap (λ (m : ℕ). b / m) (sym (pow-succ' 2 k)) in
     let rest = room n k (b / 2) (omega arith) (omega (arith, pow-suc 2 n)) (λ q. e (ap (λ (m : ℕ). m % 2) (sym half) ∙ q)) in
     omega (arith, rest, pow-suc 2 n, pow-suc 2 k)
-
--- one with bit k on is at least 2 ^ k
-held : (b k : ℕ) → b / 2 ^ k % 2 ≡ 1 → 2 ^ k ≤ b
-held b k e = go (decLt b (2 ^ k))
-  where
-    go : Dec (b < 2 ^ k) → 2 ^ k ≤ b
-    go (yes h) = let z : 0 % 2 ≡ 1 = rw (div-eq-of-lt h) at e in omega arith
-    go (no h) = omega arith
 
 -- the bit of a state as the code makes it
 shifted : (s : ℕ) → (1 * 2 ^ (s % 8)) % 256 ≡ 2 ^ (s % 8)

@@ -1,14 +1,10 @@
--- Three rules that no computed case reaches. Where 23 begins: at one over 1,000,000, whatever the chart. That an accepted
--- image has 202 bytes: a call never meets another, since 12 comes first. Which state a send names. Assumes nothing.
+-- Two rules that no computed case reaches. Where 23 begins: at one over 1,000,000, whatever the chart. That an accepted image
+-- has 202 bytes: a call never meets another, since 12 comes first. Assumes nothing.
 use mathlib.Core.Path.{_≡_}
 use mathlib.Core.Bool.{true, not}
-use Prim.Native.Nat.{ℕ, _%_, _<_}
-use native.Mathlib.Omega.{arith}
 use lib.Dec.{eqb}
 use lib.ListN.{length}
-use lib.IntN.{pos}
 use borrow.Author.Tests.{eqb-true}
-use Rattle.rules.specs.Bytes.{unsigned}
 use Rattle.rules.specs.Lists.{below, every, all}
 use Rattle.rules.specs.Chart.{Chart, junctions, instructions, instruction}
 use Rattle.rules.specs.Accept.{isSend, _unless_next_}
@@ -30,8 +26,3 @@ module _ (c : Chart)
 pub accepted-length : (im : Image) (c : Chart) → accepted im c ≡ true → length im ≡ 202
 unfolding accepted all every
 accepted-length im c e = eqb-true (length im) imageSize (both (eqb (length im) imageSize) _ e .0)
-
--- in an accepted chart the state of a send is b itself: 9 has it below the number of states, which 3 has at most 64
-pub send-names : (s : ℕ) → s < 64 → unsigned 2 (pos s) % 256 ≡ s
-unfolding unsigned
-send-names s h = omega arith

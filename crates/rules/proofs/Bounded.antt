@@ -1,14 +1,14 @@
 -- What a chart with a bound gives: no instruction sends, and a segment weighs what it and the segments after it weigh. For no
 -- junction leads back to itself, so a way passes at most as many junctions as there are. Assumes nothing.
-use mathlib.Core.Path.{_≡_, refl, sym, ap, _∙_}
+use mathlib.Core.Path.{_≡_, refl, sym, ap}
 use mathlib.Core.Logic.{inl, inr}
-use mathlib.Core.Bool.{Bool, true, false, not, Bool·not-not}
+use mathlib.Core.Bool.{Bool, true, false, not}
 use mathlib.Core.List.{List, [], _∷_, List·Memᴰ·head, List·Memᴰ·cases-cons, List·Memᴰ·not-nil, List·Memᴰ·eq-of-singleton}
 use Prim.Native.Nat.{ℕ, zero, suc, _+_, _≤_, _<_}
 use native.Mathlib.Numerals.{add-one}
 use native.Mathlib.Omega.{arith}
 use lib.ListN.{length}
-use borrow.Author.Tests.{eq-eqb}
+use borrow.Author.Tests.{eq-eqb, not-true}
 use Rattle.rules.specs.Lists.{if_then_else_, below, isIn, sumOver}
 use Rattle.rules.specs.Chart.{Junction, Segment, Chart, junctions, segments, instructions, destination, condition, conditionAction, instruction, own, endsOnState}
 use Rattle.rules.specs.Accept.{isSend}
@@ -119,17 +119,14 @@ module _ (c : Chart) where
         rw (add-one (junctions c))
         (further (junctions c) t (λ e. stable (junctions c) (start _ (to-junction c r t h e)) (omega arith)))
 
-no-from : (b : Bool) → not b ≡ true → b ≡ false
-no-from b e = sym (Bool·not-not b) ∙ ap not e
-
 pub bounded : (c : Chart) → Right c → boundRefusal c ≡ 0 → Bounded c
 unfolding boundRefusal W WWithin
 bounded c r e =
     let (a, e1) = unless-zero 20 _ _ e in
     let (b, e2) = unless-zero 21 _ _ e1 in
     record {
-      silent = λ i h. no-from _ (every-below (λ i. not (isSend (instruction c i .op))) (instructions c) a i h);
-      weight = enough c r (λ j h. no-from _ (every-below (λ j. not (loops c j)) (junctions c) b j h));
+      silent = λ i h. not-true _ (every-below (λ i. not (isSend (instruction c i .op))) (instructions c) a i h);
+      weight = enough c r (λ j h. not-true _ (every-below (λ j. not (loops c j)) (junctions c) b j h));
     }
 
 pub falls : (c : Chart) → Bounded c → (t u : Segment) → t < segments c → endsOnState c t ≡ false

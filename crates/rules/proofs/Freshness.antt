@@ -7,7 +7,7 @@ use Prim.Native.Nat.{ℕ, zero, suc, _+_, _-_, _*_, _/_, _≤_, _<_}
 use native.Mathlib.Nat.{zero-div}
 use native.Mathlib.Omega.{arith}
 use lib.ListN.{length, replicate, length-append, length-replicate}
-use borrow.Author.Tests.{eq-eqb, eqb-true}
+use borrow.Author.Tests.{eqb-true}
 use Rattle.rules.specs.Bytes.{Bytes, ascii, byte, field, bytesOf}
 use Rattle.rules.specs.Lists.{upFrom, range, below, every, all}
 use Rattle.rules.specs.Chart.{Chart, states, variables}
@@ -24,13 +24,6 @@ zero-after [] (suc n) zero h = refl
 zero-after [] (suc n) (suc i) h = zero-after [] n i (omega arith)
 zero-after (x ∷ b) n zero h = absurd (omega arith)
 zero-after (x ∷ b) n (suc i) h = zero-after b n i (omega arith)
-
-zero-field : (w : ℕ) (b : Bytes) (i : ℕ) → ((j : ℕ) → i ≤ j → j < i + w → byte b j ≡ 0) → field w b i ≡ 0
-zero-field zero b i h = refl
-zero-field (suc w) b i h =
-    let p = h i (omega arith) (omega arith) in
-    let q = zero-field w b (i + 1) (λ j l g. h j (omega arith) (omega arith)) in
-    omega arith
 
 initial-length : (c : Chart) (n : ℕ) → length (initialBytes c n) ≡ 4 * n
 unfolding initialBytes bytesOf
@@ -50,9 +43,9 @@ module _ (c : Chart) (t : Tree c) where
   unfolding marked freshImage ascii
   fresh-marked = refl
 
-  first-zero : (i : ℕ) → 2 ≤ i → i < 74 → byte (freshImage c) i ≡ 0
+  first-zero : (i : ℕ) → (2 ≤ i) × (i < 74) → byte (freshImage c) i ≡ 0
   unfolding notStarted zeroAt
-  first-zero i l h = eqb-true _ _ (every-range _ 2 74 fresh-not-started i l h)
+  first-zero i (l, h) = eqb-true _ _ (every-range _ 2 74 fresh-not-started i l h)
 
   last-zero : (i : ℕ) → 74 + 4 * variables c ≤ i → byte (freshImage c) i ≡ 0
   unfolding freshImage ascii
@@ -60,19 +53,21 @@ module _ (c : Chart) (t : Tree c) where
       zero-after (ascii "IM" ++ replicate 72 0 ++ initialBytes c (variables c)) (4 * (32 - variables c)) i
       (omega (arith, initial-length c (variables c)))
 
+  last-field : (w i : ℕ) → 74 + 4 * variables c ≤ i → field w (freshImage c) i ≡ 0
+  last-field zero i h = refl
+  last-field (suc w) i h = rw (last-zero i h, last-field w (i + 1) (omega arith))
+
   fresh-rest : restZero (freshImage c) c ≡ true
   unfolding restZero
   fresh-rest =
       and-both (every _ (range (states c) 64)) _
       (range-every _ (states c) 64
-      (λ s l h.
-      rw (first-zero (2 + s / 8) (omega arith) (omega arith), first-zero (10 + s) (omega arith) (omega arith), zero-div)))
-      (range-every _ (variables c) 32
-      (λ v l h. eq-eqb _ _ (zero-field 4 (freshImage c) (74 + 4 * v) (λ j k g. last-zero j (omega arith)))))
+      (λ s l h. rw (first-zero (2 + s / 8) (omega arith), first-zero (10 + s) (omega arith), zero-div)))
+      (range-every _ (variables c) 32 (λ v l h. rw (last-field 4 (74 + 4 * v) (omega arith))))
 
   fresh-history : every (historySound (freshImage c) c) (below (states c)) ≡ true
   unfolding historySound
-  fresh-history = below-every _ (states c) (λ s h. rw (first-zero (10 + s) (omega arith) (omega arith)))
+  fresh-history = below-every _ (states c) (λ s h. rw (first-zero (10 + s) (omega arith)))
 
   pub fresh-accepted : accepted (freshImage c) c ≡ true
   unfolding accepted all every

@@ -1,18 +1,17 @@
 -- A step, whole: on an accepted image of an accepted chart it leaves the root active and demand 3's shape; and where the chart
 -- has a bound, that many units are enough. Assumes nothing.
-use mathlib.Core.Path.{_≡_, refl, sym, subst, _∙_}
-use mathlib.Core.Bool.{Bool, true, false, true≢false}
+use mathlib.Core.Path.{_≡_, refl, _∙_}
+use mathlib.Core.Bool.{true, false}
 use Prim.Native.Nat.{ℕ, _+_, _/_, _%_, _^_, _≤_, _<_}
 use native.Mathlib.Decide.{ℕ-discrete}
 use native.Mathlib.Nat.{zero-div}
 use native.Mathlib.Omega.{arith}
 use borrow.Author.Tests.{eqb-true}
 use Rattle.rules.specs.Bytes.{byte}
-use Rattle.rules.specs.Lists.{if_then_else_, below, sumOver}
+use Rattle.rules.specs.Lists.{below, sumOver}
 use Rattle.rules.specs.Chart.{State, Chart, states}
 use Rattle.rules.specs.Accept.{zeroAt}
 use Rattle.rules.specs.Image.{Image, isActive, notStarted, accepted}
-use Rattle.rules.specs.Doing.{Now}
 use Rattle.rules.specs.Run.{run, send, start, step}
 use Rattle.rules.specs.Bound.{G, bound}
 use Rattle.rules.proofs.Laws.{clash, not-yes}
@@ -22,9 +21,9 @@ use Rattle.rules.proofs.Taken.{Tree, Right, tree}
 use Rattle.rules.proofs.Trees.{low}
 use Rattle.rules.proofs.Weights.{weigh-all}
 use Rattle.rules.proofs.Soundness.{Sound}
-use Rattle.rules.proofs.Triple.{Ended, Triple, t-post, t-pre, t-more, t-from}
+use Rattle.rules.proofs.Triple.{_⇒_, Triple, t-pre, t-post, t-more, t-from, t-test}
 use Rattle.rules.proofs.Bounded.{Bounded}
-use Rattle.rules.proofs.Shape.{Fine, Good}
+use Rattle.rules.proofs.Shape.{Good}
 use Rattle.rules.proofs.Entering.{Idle, Came, enteringCost, t-enter}
 use Rattle.rules.proofs.Firing.{up-root, entering-within}
 use Rattle.rules.proofs.Running.{runningCost, t-started}
@@ -42,25 +41,30 @@ module _ (c : Chart) (rt : Right c) where
       rw (z, zero-div (2 ^ (s % 8)))
 
   pub good-started : (im : Image) → Good c im → notStarted im ≡ false
-  good-started im g = not-yes (notStarted im) (λ e. true≢false (sym (g .root) ∙ none-active im e 0 (omega arith)))
+  good-started im g = not-yes (notStarted im) (λ e. clash (g .root) (none-active im e 0 (omega arith)))
 
   idle-root : (im : Image) → Sound c im → notStarted im ≡ true → Idle c 0 im
   idle-root im so e =
       record {
         sound = so;
         off = none 0 (tr .some);
-        fine = λ s h g. record { idle = λ q k ch. none k (ch .state); all = λ q. clash q (none s h); one = λ q. clash q (none s h) };
+        fine = λ s h g.
+            record { idle = λ q k ch. none k (ch .state); all = λ q. clash q (none s h); one = λ q. clash q (none s h) };
       }
     where
       none : (s : State) → s < states c → isActive im s ≡ false
       none s h = none-active im e s (low c tr h)
 
-  came-good : (im₀ im : Image) → Idle c 0 im₀ → Came c 0 im₀ im → Good c im
-  came-good im₀ im a g = record { sound = g .moved .sound; root = g .on; fine = λ s h. fine s h (ℕ-discrete s 0) }
-    where
-      fine : (s : State) → s < states c → Dec (s ≡ 0) → Fine c (isActive im) s
-      fine s h (yes e) = subst (λ (y : State). Fine c (isActive im) y) (sym e) (g .self)
-      fine s h (no d) = g .moved .fine s h (λ q. d (q ∙ tr .top)) (a .fine s h (omega arith))
+  came-good : (im₀ : Image) → Idle c 0 im₀ → Came c 0 im₀ ⇒ Good c
+  came-good im₀ a im g =
+      record {
+        sound = g .moved .sound;
+        root = g .on;
+        fine = λ s h. elim (ℕ-discrete s 0) [
+          | yes e ↦ rw e (g .self)
+          | no d ↦ g .moved .fine s h (λ q. d (q ∙ tr .top)) (a .fine s h (omega arith))
+        ];
+      }
 
   -- each state's part of the bound, and so G
   within-bound : sumOver (runningCost c) (below (states c)) ≤ bound c
@@ -70,15 +74,13 @@ module _ (c : Chart) (rt : Right c) where
   G-within : G c ≤ bound c
   unfolding runningCost
   G-within =
-      let q = mem-light (runningCost c) 0 (below (states c)) (mem-below (states c) 0 (tr .some)) in
-      let e = within-bound in
-      omega arith
+      omega (arith, mem-light (runningCost c) 0 (below (states c)) (mem-below (states c) 0 (tr .some)), within-bound)
 
   t-start : Triple (Bounded c) (bound c) (Idle c 0) (start c) (λ _. Good c)
   unfolding start
   t-start =
       t-more (λ x. omega (arith, weigh-all c tr (enteringCost c) 9 0 (tr .some), entering-within c rt, G-within))
-      (t-from (λ im₀ a. t-post (λ _ im g. came-good im₀ im a g) (t-enter c rt 9 0 refl 0 0 (tr .some) tt im₀ a)))
+      (t-from (λ im₀ a. t-post (λ _. came-good im₀ a) (t-enter c rt 9 0 refl 0 0 (tr .some) tt im₀ a)))
 
   t-run-root : (e : ℕ) → Triple (Bounded c) (bound c) (Good c) (run c (send c 8) e 9 0) (λ _. Good c)
   t-run-root e =
@@ -86,10 +88,7 @@ module _ (c : Chart) (rt : Right c) where
       (t-pre (λ im g. (g, up-root c rt im g)) (t-started c rt e))
 
   pub t-step : (e : ℕ) → Triple (Bounded c) (bound c) (λ im. accepted im c ≡ true) (step c e) (λ _. Good c)
-  unfolding step if_then_else_
-  t-step e = record { at = λ n a. go n a (notStarted (n .image)) refl }
-    where
-      go : (n : Now) → accepted (n .image) c ≡ true → (b : Bool) → notStarted (n .image) ≡ b
-          → Ended (Bounded c) (bound c) (n .units) (λ (_ : Unit {0}). Good c) (if b then start c n else run c (send c 8) e 9 0 n)
-      go n a true z = t-start .at n (idle-root (n .image) (sound c rt (n .image) a) z)
-      go n a false z = t-run-root e .at n (started-good c rt (n .image) a z)
+  unfolding step
+  t-step e =
+      t-test notStarted (t-pre (λ im (z, a). idle-root im (sound c rt im a) z) t-start)
+      (t-pre (λ im (z, a). started-good c rt im a z) (t-run-root e))

@@ -9,17 +9,15 @@ use Rattle.rules.proofs.Members.{Mem}
 pub sum-append : (f : ℕ → ℕ) (xs ys : List ℕ) → sumOver f (xs ++ ys) ≡ sumOver f xs + sumOver f ys
 unfolding sumOver
 sum-append f [] ys = omega arith
-sum-append f (x ∷ xs) ys = let q = sum-append f xs ys in omega arith
+sum-append f (x ∷ xs) ys = omega (arith, sum-append f xs ys)
 
 pub sum-both : (h f g : ℕ → ℕ) (xs : List ℕ) → ((x : ℕ) → h x ≡ f x + g x) → sumOver h xs ≡ sumOver f xs + sumOver g xs
 unfolding sumOver
 sum-both h f g [] e = refl
-sum-both h f g (x ∷ xs) e = let q = sum-both h f g xs e in let p = e x in omega arith
+sum-both h f g (x ∷ xs) e = omega (arith, sum-both h f g xs e, e x)
 
 pub sum-le : (f g : ℕ → ℕ) (xs : List ℕ) → ((x : ℕ) → Mem x xs → f x ≤ g x) → sumOver f xs ≤ sumOver g xs
 unfolding sumOver
 sum-le f g [] h = omega arith
 sum-le f g (x ∷ xs) h =
-    let a = h x (List·Memᴰ·head refl) in
-    let b = sum-le f g xs (λ y m. h y (List·Memᴰ·tail m)) in
-    omega arith
+    omega (arith, h x (List·Memᴰ·head refl), sum-le f g xs (λ y m. h y (List·Memᴰ·tail m)))

@@ -25,10 +25,9 @@ module _ (c : Chart) where
 
   weigh-step : (w : State → ℕ) (d : ℕ) (s : State) → weigh c w (suc d) s ≡ w s + weigh c (first-below w) d s
   unfolding weigh first-below
-  weigh-step w zero s = let q = sum-both (λ _. 0) (λ _. 0) (λ _. 0) (children c s) (λ _. refl) in omega arith
+  weigh-step w zero s = omega (arith, sum-both (λ _. 0) (λ _. 0) (λ _. 0) (children c s) (λ _. refl))
   weigh-step w (suc d) s =
-      let q = sum-both (λ k. weigh c w (suc d) k) w (λ k. weigh c (first-below w) d k) (children c s) (weigh-step w d) in
-      omega arith
+      omega (arith, sum-both (λ k. weigh c w (suc d) k) w (weigh c (first-below w) d) (children c s) (weigh-step w d))
 
   -- the children of all of a list
   kin : List State → List State
@@ -45,13 +44,11 @@ module _ (c : Chart) where
   kin-mem [] m = absurd (List·Memᴰ·not-nil m)
   kin-mem (p ∷ ps) m =
       elim (List·Memᴰ·append-cases (children c p) m) [
-        | inl n ↦
-            let ch = children-mem c p n in
-            (List·Memᴰ·head (ch .of), record { above = ch .above; state = ch .state; of = refl })
+        | inl n ↦ let ch = children-mem c p n in rw (ch .of) (List·Memᴰ·head refl, ch)
         | inr n ↦ let (a, b) = kin-mem ps n in (List·Memᴰ·tail a, b)
       ]
 
-  children-distinct : (p : State) → Distinct (children c p)
+  pub children-distinct : (p : State) → Distinct (children c p)
   unfolding children
   children-distinct p = keep-distinct _ (range 1 (states c)) (range-distinct 1 (states c))
 
@@ -77,21 +74,14 @@ module _ (c : Chart) where
     unfolding weigh sumOver
     weigh-from w zero s h = omega arith
     weigh-from w (suc d) s h =
-        let a = weigh-step w d s in
-        let b = weigh-from (first-below w) d s h in
-        let e = kin-sum w (from s) in
         let l = light w (s ∷ kin (from s)) (from s) (new, kin-distinct (from s) (range-distinct s (states c))) inside in
-        omega arith
+        omega (arith, weigh-step w d s, weigh-from (first-below w) d s h, kin-sum w (from s))
       where
         more : {k : State} → Mem k (kin (from s)) → (s < k) × (k < states c)
-        more m =
-            let (p, ch) = kin-mem (from s) m in
-            let (g, q) = range-mem s (states c) p in
-            let u = child-more c tr ch in
-            omega arith
+        more m = let (p, ch) = kin-mem (from s) m in omega (arith, range-mem s (states c) p, child-more c tr ch, ch .state)
 
         new : Mem s (kin (from s)) → ⊥
-        new m = let g = more m in omega arith
+        new m = omega (arith, more m)
 
         inside : (k : State) → Mem k (s ∷ kin (from s)) → Mem k (from s)
         inside k m =
@@ -103,14 +93,12 @@ module _ (c : Chart) where
     -- a state and what is below it weigh no more than all states
     pub weigh-all : (w : State → ℕ) (d : ℕ) (s : State) → s < states c → weigh c w d s ≤ sumOver w (below (states c))
     weigh-all w d s h =
-        let a = weigh-from w d s h in
-        let l = light w (from s) (below (states c)) (range-distinct s (states c)) inside in
-        omega arith
+        omega (arith, weigh-from w d s h, light w (from s) (below (states c)) (range-distinct s (states c)) inside)
       where
-        inside : (x : State) → Mem x (from s) → Mem x (below (states c))
-        inside x m = mem-below (states c) x (range-mem s (states c) m .1)
+        inside : (k : State) → Mem k (from s) → Mem k (below (states c))
+        inside k m = mem-below (states c) k (range-mem s (states c) m .1)
 
     pub weigh-children : (w : State → ℕ) (d : ℕ) (s : State) → s < states c
         → sumOver (λ k. weigh c w d k) (children c s) ≤ sumOver w (below (states c))
     unfolding weigh
-    weigh-children w d s h = let a = weigh-all w (suc d) s h in omega arith
+    weigh-children w d s h = omega (arith, weigh-all w (suc d) s h)
