@@ -14,6 +14,7 @@ use Rattle.rules.specs.Image.{Image, imageSize}
 use Rattle.rules.specs.Doing.{because, itemSize, roomOf}
 use Rattle.rules.specs.Run.{step}
 use Rattle.rules.specs.Calls.{withPart, numberOnly, begin, itemBytes, stepAnswer, packed, left}
+use Rattle.rules.proofs.ItemBytes.{items-length}
 use Rattle.rules.proofs.Spending.{step-spends}
 use Rattle.rules.proofs.Rooming.{step-rooms}
 use Rattle.doing.specs.Held.{nowOf, outcomeOf}
@@ -39,11 +40,6 @@ copied-all from to i e h k =
     rw (take-all i from k, drop-of-length-le to {i = i} (omega arith)) (append-nil from)
 
 -- items as bytes
-pub length-items : (items : List ℕ) → length (itemBytes items) ≡ itemSize * length items
-unfolding itemBytes bytesOf
-length-items [] = refl
-length-items (i ∷ is) = omega (arith, length-items is)
-
 items-append : (xs ys : List ℕ) → itemBytes (xs ++ ys) ≡ itemBytes xs ++ itemBytes ys
 unfolding itemBytes
 items-append [] ys = refl
@@ -71,7 +67,7 @@ handed-none items trace = refl
 
 module _ (items : List ℕ) (trace : Bytes) (fits : itemSize * length items ≤ length trace) (i : ℕ) where
   front : i ≤ length items → length (itemBytes (take i items)) ≡ itemSize * i
-  front h = length-items (take i items) ∙ rw (length-take-le i items h)
+  front h = items-length (take i items) ∙ rw (length-take-le i items h)
 
   pub length-handed : i ≤ length items → length (handed items trace i) ≡ length trace
   length-handed h = rw (length-append, length-drop) (omega (arith, front h))

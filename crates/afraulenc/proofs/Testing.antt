@@ -2,7 +2,7 @@
 -- is the step of the board whose part it is. Assumes nothing.
 use mathlib.Core.Path.{_≡_, refl, sym, ap, _∙_}
 use mathlib.Core.Bool.{Bool, true, false, _||_, not, cond}
-use mathlib.Core.List.{List, [], _∷_, append-assoc, append-nil}
+use mathlib.Core.List.{[], append-assoc, append-nil}
 use Prim.Native.Nat.{ℕ, zero, suc, _+_, _-_, _*_, _≤_, _<_}
 use native.Mathlib.Nat.{add-zero}
 use native.Mathlib.Omega.{arith}
@@ -12,22 +12,21 @@ use lib.Dec.{leb, ltb}
 use lib.ListN.{length, drop, take-append-drop, length-drop, drop-of-length-le}
 use lib.Seq.{length-take-le, drop-drop}
 use Rattle.rules.specs.Bytes.{Bytes}
-use Rattle.rules.specs.Lists.{within, all, _else_}
-use Rattle.rules.specs.Chart.{Chart, mostVariables, variables, events}
-use Rattle.rules.specs.Accept.{_unless_next_, countsRight, chartRefusal}
+use Rattle.rules.specs.Lists.{within, _else_}
+use Rattle.rules.specs.Chart.{Chart, events}
+use Rattle.rules.specs.Accept.{_unless_next_, chartRefusal}
 use Rattle.rules.specs.Image.{Image, imageSize, accepted, freshImage}
 use Rattle.rules.specs.Doing.{because, Outcome, refused, went, mostUnits}
 use Rattle.rules.specs.Run.{step}
-use Rattle.rules.specs.Types.{fitsOf, partOf, partNumber}
+use Rattle.rules.specs.Types.{partOf, partNumber}
 use Rattle.rules.specs.Calls.{Board, part, withPart, hasPart, partRefusal, numberOnly, freshTested, freshCall, begin, stepRefusal, stepAnswer, stepTested, stepCall, Left, packed, left}
 use Rattle.rules.specs.declared.images.Image.{Image as Placed}
 use Rattle.rules.specs.declared.images.Part.{Part}
 use Rattle.rules.specs.declared.images.Part.the-variants.{At, Missing}
 use Rattle.rules.specs.declared.headers.Header.{Header}
-use Rattle.rules.proofs.Laws.{both, every-at}
+use Rattle.rules.proofs.Laws.{both}
 use Rattle.rules.proofs.TypeNumbers.{part-number}
 use Rattle.chart.specs.Places.{headerOf}
-use Rattle.checker.proofs.Chains.{refusalFrom, in-order}
 use Rattle.afraulenc.specs.Parts.{steppedOn, partTests, partTested, partStepped}
 
 -- a range as the code tests it
@@ -197,15 +196,3 @@ module _ (c : Chart) (board : Board) (k : ℕ) where
         → record { answer = 0; board = putMid (im .at) (im .at + imageSize - im .at) board q; trace = [] } ≡ left (freshCall c board k)
     unfolding freshCall freshTested _else_ left packed numberOnly because
     fresh-there a {q} made = rw (back board k found a q, ← taken, there board k found a, made)
-
--- a chart that is taken has its counts in their ranges
-unrefused : (k : ℕ) (t : Bool) (ts : List Bool) → 0 ≡ refusalFrom (suc k) (t ∷ ts) → (t ≡ true) × (0 ≡ refusalFrom (suc (suc k)) ts)
-unfolding refusalFrom _unless_next_
-unrefused k true ts e = (refl, e)
-unrefused k false ts e = absurd (omega arith)
-
-pub taken-variables : (c : Chart) → 0 ≡ chartRefusal c → variables c ≤ mostVariables
-unfolding countsRight all
-taken-variables c e =
-    let counts : fitsOf (headerOf c) ≡ true = unrefused _ _ _ (unrefused _ _ _ (unrefused _ _ _ (e ∙ in-order c) .1) .1) .0 in
-    leb-true (variables c) mostVariables (both (leb 0 (variables c)) (leb (variables c) mostVariables) (every-at (λ t. t) _ counts 3 true (omega arith)) .1)

@@ -86,8 +86,3 @@ in-none (x ∷ xs) e = absurd (eqb-false x x (first (eqb x x) (any (eqb x) xs) (
     first : (a b : Bool) → a || b ≡ false → a ≡ false
     first true b q = q
     first false b q = refl
-
-pub keep-none : (f : ℕ → Bool) → ((x : ℕ) → f x ≡ false) → (xs : List ℕ) → keep f xs ≡ []
-unfolding keep if_then_else_
-keep-none f e [] = refl
-keep-none f e (x ∷ xs) = rw (e x) (keep-none f e xs)

@@ -8,6 +8,7 @@ use native.Mathlib.Nat.{add-zero, zero-add}
 use native.Mathlib.Numerals.{add-one}
 use native.Mathlib.Omega.{arith}
 use Rattle.rules.specs.Lists.{if_then_else_, upFrom, below, any, keep, sumOver}
+use Rattle.rules.proofs.Sums.{sum-append}
 
 up-more : (a n : ℕ) → upFrom a (suc n) ≡ upFrom a n ++ ((a + n) ∷ [])
 unfolding upFrom
@@ -36,11 +37,6 @@ any-none f = refl
 pub any-more : (f : ℕ → Bool) (t : ℕ) → any f (below (t + 1)) ≡ any f (below t) || f t
 unfolding any
 any-more f t = rw (below-more t, any-append f (below t) (t ∷ []), or-false (f t))
-
-sum-append : (w : ℕ → ℕ) (xs ys : List ℕ) → sumOver w (xs ++ ys) ≡ sumOver w xs + sumOver w ys
-unfolding sumOver
-sum-append w [] ys = rw (zero-add (sumOver w ys))
-sum-append w (x ∷ xs) ys = rw (sum-append w xs ys) (omega arith)
 
 pub sum-none : (w : ℕ → ℕ) → sumOver w (below 0) ≡ 0
 unfolding sumOver below upFrom

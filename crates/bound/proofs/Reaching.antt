@@ -12,9 +12,9 @@ use Rattle.rules.specs.Lists.{below, any, isIn}
 use Rattle.rules.specs.Chart.{Chart, Junction, junctions}
 use Rattle.rules.specs.Bound.{onward, reaches, loops}
 use Rattle.rules.specs.declared.headers.Header.{Header}
+use Rattle.rules.proofs.Members.{keep-none}
 use Rattle.chart.specs.Places.{headerOf}
 use Rattle.bound.specs.Flags.{isFlagged, onwardFlags, leadOn}
-use Rattle.bound.proofs.Anys.{keep-none}
 use Rattle.bound.proofs.Flagging.{flagged, no-flags, flag-more}
 use Rattle.bound.proofs.Leading.{flagsOf, none-led, flags-onward}
 
@@ -27,7 +27,7 @@ module _ (c : Chart) where
   reaches-none : (j : Junction) (n : ℕ) → reaches c j n [] ≡ false
   unfolding reaches onward isIn any
   reaches-none j zero = refl
-  reaches-none j (suc n) = rw (keep-none (λ i. false) (λ i. refl) (below (junctions c))) (reaches-none j n)
+  reaches-none j (suc n) = rw (keep-none (λ i. false) (below (junctions c)) (λ i m. refl)) (reaches-none j n)
 
   -- reached at once; not reached with no segment left; a segment further
   reached : (j : Junction) (n : ℕ) (is : List Junction) → isIn j is ≡ true → reaches c j n is ≡ true

@@ -1,15 +1,16 @@
 -- Laws of little-endian fields, the width in bytes a parameter, by recursion over it. Assumes nothing.
 use mathlib.Core.Path.{_≡_, refl, sym, ap, _∙_}
 use mathlib.Core.List.{List}
-use mathlib.Core.Logic.{_⊎_, ⊎-elim}
+use mathlib.Core.Logic.{_⊎_, inl, inr}
 use Prim.Native.Nat.{ℕ, zero, suc, _+_, _*_, _/_, _%_, _^_, _≤_, _<_}
 use native.Mathlib.Nat.{mul-assoc, add-zero, zero-add, suc-add, pow-suc, pow-succ', div-div-eq-div-mul}
 use native.Mathlib.Numerals.{add-one}
 use native.Mathlib.Omega.{arith}
 use lib.Arith.{mod-mul}
 use lib.ListN.{length, set, drop, length-set, List·getD-eq-default}
-use lib.Seq.{getD-drop, getD-set-same, getD-set-other, set-out, length-sets}
+use lib.Seq.{getD-drop, getD-set-same, set-out}
 use Rattle.rules.specs.Bytes.{byte, field, bytesOf, put}
+use Rattle.rules.proofs.Puts.{length-put, put-other}
 
 -- a field of one byte is the byte
 pub field-one : (b : List ℕ) (i : ℕ) → field 1 b i ≡ byte b i
@@ -70,24 +71,6 @@ pub put-out : (w : ℕ) (b : List ℕ) (i n : ℕ) → length b ≤ i → put w 
 put-out zero b i n h = put-none b i n
 put-out (suc w) b i n h = rw (put-suc w b i n, set-out b i (n % 256) h) (put-out w b (i + 1) (n / 256) (omega arith))
 
--- a put keeps the length
-pub length-put : (w : ℕ) (b : List ℕ) (i n : ℕ) → length (put w b i n) ≡ length b
-unfolding put
-length-put w b i n = length-sets b i (bytesOf w n)
-
--- the bytes before a field and past it stay
-pub put-before : (w : ℕ) (b : List ℕ) (i n k : ℕ) → k < i → byte (put w b i n) k ≡ byte b k
-unfolding put bytesOf
-put-before zero b i n k h = refl
-put-before (suc w) b i n k h =
-    put-before w (set b i (n % 256)) (suc i) (n / 256) k (omega arith) ∙ getD-set-other b i k (n % 256) 0 (λ e. omega arith)
-
-pub put-past : (w : ℕ) (b : List ℕ) (i n k : ℕ) → i + w ≤ k → byte (put w b i n) k ≡ byte b k
-unfolding put bytesOf
-put-past zero b i n k h = refl
-put-past (suc w) b i n k h =
-    put-past w (set b i (n % 256)) (suc i) (n / 256) k (omega arith) ∙ getD-set-other b i k (n % 256) 0 (λ e. omega arith)
-
 -- the lowest w + 1 bytes of n, from its lowest byte and the rest
 lowest : (w n : ℕ) → n % 256 ^ suc w ≡ n % 256 + 256 * (n / 256 % 256 ^ w)
 lowest w n = rw pow-suc (mod-mul n (positive w) (omega arith) ∙ omega arith)
@@ -102,7 +85,7 @@ field-put zero b i n h = omega arith
 field-put (suc w) b i n h =
     let after : List ℕ = set b i (n % 256) in
     let here : byte (put w after (i + 1) (n / 256)) i ≡ n % 256 =
-    put-before w after (i + 1) (n / 256) i (omega arith) ∙ getD-set-same b i (n % 256) 0 (omega arith) in
+    put-other w after (i + 1) (n / 256) i (omega arith) ∙ getD-set-same b i (n % 256) 0 (omega arith) in
     let rest = field-put w after (i + 1) (n / 256) (rw length-set (omega arith)) in
     rw (put-suc w b i n) (omega (arith, here, rest, lowest w n))
 
@@ -117,7 +100,7 @@ field-same (suc w) a b i same =
 pub field-put-other : (j w : ℕ) (b : List ℕ) (i n k : ℕ) → (k + j ≤ i) ⊎ (i + w ≤ k) → field j (put w b i n) k ≡ field j b k
 field-put-other j w b i n k away =
     field-same j (put w b i n) b k
-    (λ m l h. ⊎-elim (λ a. put-before w b i n m (omega arith)) (λ a. put-past w b i n m (omega arith)) away)
+    (λ m l h. put-other w b i n m (elim away [ inl a ↦ omega arith | inr a ↦ omega arith ]))
 
 -- j + k bytes are put as j, and then k after them
 pub put-split : (j k : ℕ) (b : List ℕ) (i n : ℕ) → put (j + k) b i n ≡ put k (put j b i (n % 256 ^ j)) (i + j) (n / 256 ^ j)

@@ -14,6 +14,8 @@ use Rattle.rules.specs.Bytes.{Bytes, byte, put}
 use Rattle.rules.specs.Lists.{if_then_else_, upFrom, range, keep}
 use Rattle.rules.specs.Chart.{State, Chart, states, parent, children, isOneOf}
 use Rattle.rules.specs.Image.{Image, isActive, shapeAt}
+use Rattle.rules.proofs.Members.{keep-length}
+use Rattle.rules.proofs.Distinct.{up-length}
 use Rattle.fields.proofs.Laws.{put-one}
 use Rattle.chart.proofs.Ranges.{range-end}
 use Rattle.image.specs.Counted.{Counted}
@@ -33,36 +35,17 @@ range-more a k h =
     let e : a + (k - a) ≡ k = omega arith in
     rw (q, up-more a (k - a), e)
 
-length-up : (a n : ℕ) → length (upFrom a n) ≡ n
-unfolding upFrom
-length-up a zero = refl
-length-up a (suc n) = ap suc (length-up (a + 1) n)
-
-length-range : (a e : ℕ) → length (range a e) ≡ e - a
-unfolding range
-length-range a e = length-up a (e - a)
-
--- what a test keeps: of two lists, no more than there is, and of a range with one more at its end
+-- what a test keeps: of two lists, and of a range with one more at its end
 test-append : (t : Bool) (x : ℕ) (l m : List ℕ) → (if t then x ∷ (l ++ m) else (l ++ m)) ≡ (if t then x ∷ l else l) ++ m
 unfolding if_then_else_
 test-append true x l m = refl
 test-append false x l m = refl
-
-test-most : (t : Bool) (x : ℕ) (l : List ℕ) (n : ℕ) → length l ≤ n → length (if t then x ∷ l else l) ≤ suc n
-unfolding if_then_else_
-test-most true x l n h = omega arith
-test-most false x l n h = omega arith
 
 module _ (f : ℕ → Bool) where
   keep-append : (xs ys : List ℕ) → keep f (xs ++ ys) ≡ keep f xs ++ keep f ys
   unfolding keep
   keep-append [] ys = refl
   keep-append (x ∷ xs) ys = rw (keep-append xs ys) (test-append (f x) x (keep f xs) (keep f ys))
-
-  keep-most : (xs : List ℕ) → length (keep f xs) ≤ length xs
-  unfolding keep
-  keep-most [] = omega arith
-  keep-most (x ∷ xs) = test-most (f x) x (keep f xs) (length xs) (keep-most xs)
 
   module _ (a k : ℕ) (h : a ≤ k) where
     counted : f k ≡ true → length (keep f (range a (k + 1))) ≡ length (keep f (range a k)) + 1
@@ -100,7 +83,8 @@ module _ (f : State → State → Bool) where
   module _ {k : ℕ} {table : Bytes} (t : Tally f k table) where
     -- there is room for one more
     pub tally-room : k < 256 → (q : State) → q < 256 → byte table q < 255
-    tally-room h q hq = omega (arith, t .counts q hq, keep-most (f q) (range 1 k), length-range 1 k)
+    unfolding range
+    tally-room h q hq = omega (arith, t .counts q hq, keep-length (f q) (range 1 k), up-length 1 (k - 1))
 
     -- k counts at q, and nowhere else
     count-at : (q : State) → q < 256 → 1 ≤ k → k < 256 → ((p : State) → f p k ≡ eqb q p) → {next : Bytes}

@@ -1,8 +1,8 @@
 -- Making the fresh image from the front: zeros, the mark, and then one variable after the other in the place of the zeros that
 -- stand next. Assumes nothing.
-use mathlib.Core.Path.{_≡_, refl, ap, _∙_}
+use mathlib.Core.Path.{_≡_, ap, _∙_}
 use mathlib.Core.List.{_++_, append-nil, append-assoc}
-use Prim.Native.Nat.{ℕ, zero, suc, _+_, _-_, _*_, _/_, _≤_, _<_}
+use Prim.Native.Nat.{ℕ, zero, suc, _+_, _-_, _*_, _≤_, _<_}
 use native.Mathlib.Nat.{sub-zero, zero-sub, suc-sub-suc}
 use native.Mathlib.Numerals.{add-one}
 use native.Mathlib.Omega.{arith}
@@ -12,6 +12,8 @@ use Rattle.rules.specs.Bytes.{Bytes, ascii, field, bytesOf, put}
 use Rattle.rules.specs.Chart.{Chart, mostVariables, variables, initialValue}
 use Rattle.rules.specs.declared.headers.Header.{Header}
 use Rattle.rules.specs.Image.{Image, imageSize, initialBytes, freshImage}
+use Rattle.rules.proofs.Puts.{length-bytes}
+use Rattle.rules.proofs.Freshness.{initial-length, made}
 use Rattle.chart.specs.Places.{headerOf, variablePlace}
 
 abbrev pub zeros : ℕ → Bytes
@@ -27,11 +29,6 @@ zeros-past zero m = rw (sub-zero m)
 zeros-past (suc w) zero = rw (zero-sub (suc w))
 zeros-past (suc w) (suc m) = rw (suc-sub-suc m w) (zeros-past w m)
 
-length-bytes : (w n : ℕ) → length (bytesOf w n) ≡ w
-unfolding bytesOf
-length-bytes zero n = refl
-length-bytes (suc w) n = ap suc (length-bytes w (n / 256))
-
 -- w bytes put in the place of the first zeros
 put-next : (w : ℕ) (front : Bytes) (m i n : ℕ) → length front ≡ i → w ≤ m
     → put w (front ++ zeros m) i n ≡ front ++ bytesOf w n ++ zeros (m - w)
@@ -43,37 +40,21 @@ put-next w front m i n e h =
     fits : length front + length (bytesOf w n) ≤ length (front ++ zeros m)
     fits = rw (length-bytes w n, length-append front (zeros m), length-replicate {A = ℕ} m 0) (omega arith)
 
--- what stands before the variables, and the fresh image before variable v is put
+-- what stands before the variables
 head : Bytes
 head = ascii "IM" ++ zeros 72
 
-pub made : Chart → ℕ → Image
-made c v = head ++ initialBytes c v ++ zeros (4 * (mostVariables - v))
-
 module _ (c : Chart) where
-  length-initial : (v : ℕ) → length (initialBytes c v) ≡ 4 * v
-  unfolding initialBytes
-  length-initial zero = refl
-  length-initial (suc v) =
-      rw (length-append (initialBytes c v) (bytesOf 4 (initialValue c v)))
-      (omega (arith, length-initial v, length-bytes 4 (initialValue c v)))
-
   length-put-before : (v : ℕ) → length (head ++ initialBytes c v) ≡ 74 + 4 * v
   unfolding head ascii
-  length-put-before v = omega (arith, length-initial v)
-
-  pub length-made : (v : ℕ) → v ≤ mostVariables → length (made c v) ≡ imageSize
-  unfolding made
-  length-made v h =
-      rw (length-append (head ++ initialBytes c v) (zeros (4 * (mostVariables - v))), length-put-before v, length-replicate {A = ℕ} (4 * (mostVariables - v)) 0)
-      (omega arith)
+  length-put-before v = omega (arith, initial-length c v)
 
   initial-more : (v : ℕ) → initialBytes c (v + 1) ≡ initialBytes c v ++ bytesOf 4 (initialValue c v)
   unfolding initialBytes
   initial-more v = rw (add-one v)
 
   put-more : (v : ℕ) → v < mostVariables → put 4 (made c v) (74 + 4 * v) (initialValue c v) ≡ made c (v + 1)
-  unfolding made
+  unfolding made head
   put-more v h =
       let left : 4 * (mostVariables - v) - 4 ≡ 4 * (mostVariables - (v + 1)) = omega arith in
       put-next 4 (head ++ initialBytes c v) (4 * (mostVariables - v)) (74 + 4 * v) (initialValue c v) (length-put-before v) (omega arith)

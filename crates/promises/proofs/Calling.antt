@@ -3,13 +3,14 @@
 use mathlib.Core.Path.{_≡_, refl}
 use mathlib.Core.Bool.{true}
 use mathlib.Core.List.{[]}
-use Prim.Native.Nat.{ℕ, zero, suc}
+use Prim.Native.Nat.{ℕ, zero, suc, _≤_}
+use borrow.Author.Tests.{leb-true}
 use Rattle.rules.specs.Bytes.{Bytes}
 use Rattle.rules.specs.Lists.{_else_}
 use Rattle.rules.specs.Chart.{Chart}
 use Rattle.rules.specs.Accept.{chartRefusal}
 use Rattle.rules.specs.Image.{accepted, freshImage}
-use Rattle.rules.specs.Doing.{Refusal, because, Now, Outcome, refused, went}
+use Rattle.rules.specs.Doing.{Refusal, because, Now, Outcome, refused, went, mostUnits}
 use Rattle.rules.specs.Run.{step}
 use Rattle.rules.specs.Bound.{boundRefusal, bound}
 use Rattle.rules.specs.Calls.{Board, Answer, part, withPart, partRefusal, numberOnly, freshTested, freshCall, boundTested, boundCall, stepRefusal, begin, stepAnswer, stepTested, stepCall}
@@ -21,8 +22,8 @@ use Rattle.rules.proofs.Shape.{Good}
 use Rattle.rules.proofs.Stepping.{t-step}
 use Rattle.rules.proofs.Boards.{Has, part-has}
 
--- what a step's tests give
-pub record Begun (c : Chart) (board : Board) (k : ℕ) : Type 0 where
+-- lift k is on the board, with an image that the taken chart c accepts
+pub record Lift (c : Chart) (k : ℕ) (board : Board) : Type 0 where
   pub chart : chartRefusal c ≡ 0
   pub has : Has board k
   pub taken : accepted (part board k) c ≡ true
@@ -40,29 +41,31 @@ module _ (c : Chart) (board : Board) (k : ℕ) where
     fresh-ends = fresh-by (chartRefusal c else partRefusal board k) refl
 
   module _ (e allowance : ℕ) where
-    begun : stepRefusal c board k e allowance ≡ 0 → Begun c board k
+    begun : stepRefusal c board k e allowance ≡ 0 → Lift c k board × (allowance ≤ mostUnits)
     unfolding stepRefusal
     begun q =
         let (a, q1) = else-zero (chartRefusal c) _ q in
         let (b, q2) = else-zero (partRefusal board k) _ q1 in
         let (t, q3) = unless-zero 12 _ _ q2 in
-        record { chart = a; has = part-has board k b; taken = t }
+        let (w, q4) = unless-zero 13 _ _ q3 in
+        let (l, q5) = unless-zero 14 _ _ q4 in
+        (record { chart = a; has = part-has board k b; taken = t }, leb-true allowance mostUnits l)
 
     module _ (trace : Bytes) (P : Answer → Type 0)
         (refusing : (r : ℕ) → stepRefusal c board k e allowance ≡ suc r → P (numberOnly (because (suc r)) board trace))
-        (stopping : Begun c board k → (r : Refusal) → step c e (begin (part board k) trace allowance) ≡ refused r
+        (stopping : Lift c k board → (r : Refusal) → step c e (begin (part board k) trace allowance) ≡ refused r
         → P (numberOnly r board trace))
-        (going : Begun c board k → (u : Unit {0}) (n : Now) → step c e (begin (part board k) trace allowance) ≡ went u n
-        → P (stepAnswer board trace k allowance (went u n))) where
-      step-goes : Begun c board k → (o : Outcome (Unit {0})) → step c e (begin (part board k) trace allowance) ≡ o
-          → P (stepAnswer board trace k allowance o)
+        (going : Lift c k board → allowance ≤ mostUnits → (u : Unit {0}) (n : Now)
+        → step c e (begin (part board k) trace allowance) ≡ went u n → P (stepAnswer board trace k allowance (went u n))) where
+      step-goes : Lift c k board → allowance ≤ mostUnits → (o : Outcome (Unit {0}))
+          → step c e (begin (part board k) trace allowance) ≡ o → P (stepAnswer board trace k allowance o)
       unfolding stepAnswer
-      step-goes b (refused r) q = stopping b r q
-      step-goes b (went u n) q = going b u n q
+      step-goes b l (refused r) q = stopping b r q
+      step-goes b l (went u n) q = going b l u n q
 
       step-by : (r : ℕ) → stepRefusal c board k e allowance ≡ r → P (stepTested r c board trace k e allowance)
       unfolding stepTested
-      step-by zero q = step-goes (begun q) (step c e (begin (part board k) trace allowance)) refl
+      step-by zero q = let (b, l) = begun q in step-goes b l (step c e (begin (part board k) trace allowance)) refl
       step-by (suc r) q = refusing r q
 
       pub step-ends : P (stepCall c board trace k e allowance)
@@ -82,7 +85,7 @@ module _ (c : Chart) (P : Answer → Type 0)
   bound-ends = bound-by (chartRefusal c else boundRefusal c) refl
 
 -- how a step ends that passed its tests: in demand 3's shape if it went, and as its bound has it
-pub ending : (c : Chart) (board : Board) (trace : Bytes) (k e allowance : ℕ) → Begun c board k → (o : Outcome (Unit {0}))
+pub ending : (c : Chart) (board : Board) (trace : Bytes) (k e allowance : ℕ) → Lift c k board → (o : Outcome (Unit {0}))
     → step c e (begin (part board k) trace allowance) ≡ o → Ended (Bounded c) (bound c) allowance (λ (_ : Unit {0}). Good c) o
 unfolding begin
 ending c board trace k e allowance b o w =

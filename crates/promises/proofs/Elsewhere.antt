@@ -1,49 +1,79 @@
--- A call for one lift changes no byte outside that lift's part, so no other part, and no board's length: it writes nothing but that
--- part. Assumes nothing.
-use mathlib.Core.Path.{_≡_, refl, _∙_}
-use mathlib.Core.Logic.{_⊎_}
-use mathlib.Core.List.{List, [], _∷_}
-use Prim.Native.Nat.{ℕ, _+_, _*_, _≤_, _<_}
-use lib.ListN.{length}
-use Rattle.rules.specs.Bytes.{byte}
+-- What a call leaves as it was: of the board every byte outside its lift's part, so every other part, and the length; of the
+-- trace every byte past the items, and the length. Assumes nothing.
+use mathlib.Core.Path.{_≡_, refl, ap, _∙_}
+use mathlib.Core.List.{List, [], _∷_, _++_}
+use Prim.Native.Nat.{ℕ, _+_, _-_, _*_, _≤_}
+use native.Mathlib.Omega.{arith}
+use lib.ListN.{length, drop, length-append, length-drop}
+use lib.Seq.{getD-append-add, getD-drop}
+use Rattle.rules.specs.Bytes.{Bytes, byte}
 use Rattle.rules.specs.Chart.{Chart}
-use Rattle.rules.specs.Image.{imageSize}
-use Rattle.rules.specs.Calls.{Board, part}
+use Rattle.rules.specs.Doing.{Now, went, itemSize}
+use Rattle.rules.specs.Run.{step as stepping}
+use Rattle.rules.specs.Calls.{Board, part, numberOnly, begin, itemBytes, stepAnswer, stepCall}
+use Rattle.rules.proofs.Rooming.{step-rooms}
+use Rattle.rules.proofs.ItemBytes.{items-length}
 use Rattle.rules.proofs.Boards.{byte-other, part-other, withPart-length}
-use Rattle.promises.specs.Many.{Call, fresh, step, bound, afterCall, afterCalls, NotFor, AllNotFor, Outside}
-use Rattle.promises.proofs.Writing.{Wrote, nothing, image, fresh-writes, step-writes}
+use Rattle.promises.specs.Many.{Call, Goes, afterCall, afterCalls, IsFor, LeftAlone, Outside}
+use Rattle.promises.proofs.Calling.{step-ends}
+use Rattle.promises.proofs.Writing.{Wrote, nothing, image, call-writes}
 
-module _ (c : Chart) (k : ℕ) (board : Board) where
-  wrote-length : (board′ : Board) → Wrote c k board board′ → length board′ ≡ length board
-  wrote-length board′ nothing = refl
-  wrote-length board′ (image im z h size a) = withPart-length board im k (h .room) size
+module _ (x : Call) (board : Board) where
+  wrote-length : (goes : Type 0) (board′ : Board) → Wrote x board goes board′ → length board′ ≡ length board
+  wrote-length goes board′ nothing = refl
+  wrote-length goes board′ (image g k im w) = withPart-length board im k (w .has) (w .size)
 
-  wrote-byte : (board′ : Board) → Wrote c k board board′ → (i : ℕ) → (i < imageSize * k) ⊎ (imageSize * k + imageSize ≤ i)
+  wrote-byte : (goes : Type 0) (board′ : Board) → Wrote x board goes board′ → (i : ℕ) → ((k : ℕ) → IsFor k x → Outside k i)
       → byte board′ i ≡ byte board i
-  wrote-byte board′ nothing i out = refl
-  wrote-byte board′ (image im z h size a) i out = byte-other board im k (h .room) size i out
+  wrote-byte goes board′ nothing i out = refl
+  wrote-byte goes board′ (image g k im w) i out = byte-other board im k (w .has) (w .size) i (out k (w .for))
 
-  wrote-part : (board′ : Board) → Wrote c k board board′ → (j : ℕ) → (j ≡ k → ⊥) → part board′ j ≡ part board j
-  wrote-part board′ nothing j apart = refl
-  wrote-part board′ (image im z h size a) j apart = part-other board im k (h .room) size j apart
+  wrote-part : (goes : Type 0) (board′ : Board) → Wrote x board goes board′ → (j : ℕ) → (goes → IsFor j x → ⊥)
+      → part board′ j ≡ part board j
+  wrote-part goes board′ nothing j apart = refl
+  wrote-part goes board′ (image g k im w) j apart = part-other board im k (w .has) (w .size) j (λ e. apart g (rw e (w .for)))
 
-pub same-length : (x : Call) (board : Board) → length (afterCall x board) ≡ length board
-same-length (fresh c k) board = wrote-length c k board _ (fresh-writes c board k)
-same-length (step c trace k e allowance) board = wrote-length c k board _ (step-writes c board trace k e allowance)
-same-length (bound c) board = refl
+  pub same-length : length (afterCall x board) ≡ length board
+  same-length = wrote-length _ _ (call-writes x board)
 
-pub other-bytes : (x : Call) (board : Board) (i : ℕ) → Outside i x → byte (afterCall x board) i ≡ byte board i
-other-bytes (fresh c k) board i out = wrote-byte c k board _ (fresh-writes c board k) i out
-other-bytes (step c trace k e allowance) board i out = wrote-byte c k board _ (step-writes c board trace k e allowance) i out
-other-bytes (bound c) board i out = refl
+  pub other-bytes : (i : ℕ) → ((k : ℕ) → IsFor k x → Outside k i) → byte (afterCall x board) i ≡ byte board i
+  other-bytes i out = wrote-byte _ _ (call-writes x board) i out
 
-pub other-part : (x : Call) (board : Board) (j : ℕ) → NotFor j x → part (afterCall x board) j ≡ part board j
-other-part (fresh c k) board j apart = wrote-part c k board _ (fresh-writes c board k) j apart
-other-part (step c trace k e allowance) board j apart = wrote-part c k board _ (step-writes c board trace k e allowance) j apart
-other-part (bound c) board j apart = refl
+  pub other-part : (j : ℕ) → (Goes x board → IsFor j x → ⊥) → part (afterCall x board) j ≡ part board j
+  other-part j apart = wrote-part _ _ (call-writes x board) j apart
 
--- and so over any calls
-pub other-part-still : (xs : List Call) (board : Board) (j : ℕ) → AllNotFor j xs → part (afterCalls xs board) j ≡ part board j
+-- and so over many calls
+pub other-part-still : (xs : List Call) (board : Board) (j : ℕ) → LeftAlone j xs board
+    → part (afterCalls xs board) j ≡ part board j
 other-part-still [] board j apart = refl
 other-part-still (x ∷ xs) board j apart =
     other-part-still xs (afterCall x board) j (apart .1) ∙ other-part x board j (apart .0)
+
+-- the trace
+module _ (c : Chart) (board : Board) (trace : Bytes) (k e allowance : ℕ) where
+  items-fit : (u : Unit {0}) (n : Now) → stepping c e (begin (part board k) trace allowance) ≡ went u n
+      → itemSize * length (n .trace) ≤ length trace
+  unfolding begin
+  items-fit u n w = omega (arith, step-rooms c e (begin (part board k) trace allowance) u n w)
+
+  pub trace-length : length (stepCall c board trace k e allowance .trace) ≡ length trace
+  unfolding numberOnly stepAnswer
+  trace-length =
+      step-ends c board k e allowance trace (λ a. length (a .trace) ≡ length trace) (λ r q. refl) (λ b r q. refl)
+      (λ b l u n w. rw (length-append, items-length, length-drop) (omega (arith, items-fit u n w)))
+
+  pub trace-rest : (i : ℕ) → itemSize * stepCall c board trace k e allowance .items ≤ i
+      → byte (stepCall c board trace k e allowance .trace) i ≡ byte trace i
+  unfolding numberOnly stepAnswer
+  trace-rest i =
+      step-ends c board k e allowance trace (λ a. itemSize * a .items ≤ i → byte (a .trace) i ≡ byte trace i)
+      (λ r q h. refl) (λ b r q h. refl) (λ b l u n w h. past (n .trace) h)
+    where
+      past : (items : List ℕ) → itemSize * length items ≤ i
+          → byte (itemBytes items ++ drop (itemSize * length items) trace) i ≡ byte trace i
+      past items h =
+          let m : ℕ = itemSize * length items in
+          let here : i ≡ length (itemBytes items) + (i - m) = omega (arith, items-length items) in
+          let there : m + (i - m) ≡ i = omega arith in
+          ap (byte (itemBytes items ++ drop m trace)) here ∙ getD-append-add (itemBytes items) (drop m trace) (i - m) 0
+          ∙ getD-drop m trace (i - m) 0 ∙ ap (byte trace) there

@@ -1,5 +1,6 @@
--- The promises are of something: on a board of two lifts with any old bytes, lift 1 is made fresh for chart A after calls that were
--- refused, and is started; so it has the shape, by the theorem. Assumes nothing.
+-- The promises are of something: on a board of two lifts whose bytes are all 9, after two calls that are refused, lift 1 is made
+-- fresh for chart A, started, refused and stepped again, also with a damaged chart; so it has the shape, by the theorem. Assumes
+-- nothing.
 use mathlib.Core.Path.{_≡_, refl}
 use mathlib.Core.Bool.{false}
 use mathlib.Core.List.{List, [], _∷_}
@@ -11,7 +12,7 @@ use Rattle.rules.specs.Charts.{chartA}
 use Rattle.rules.specs.Image.{notStarted}
 use Rattle.rules.specs.Calls.{Board, part}
 use Rattle.rules.proofs.Opened.{opened}
-use Rattle.promises.specs.Many.{Call, fresh, step, bound, answer, afterCalls, boardAfter, MadeFresh, WellShaped}
+use Rattle.promises.specs.Many.{Call, fresh, step, bound, answer, Goes, afterCall, afterCalls, KeptOn, WellShaped}
 use Rattle.promises.proofs.Kept.{stays-shaped}
 
 pub old : Board
@@ -24,31 +25,51 @@ lent = replicate 64 0
 pub before : List Call
 before = step chartA lent 1 1 100 ∷ fresh chartA 2 ∷ []
 
--- started, no such event, too few units, gone on, another lift
+-- started, no such event, too few units, no chart, gone on, the bound, another lift
 pub later : List Call
 later =
-    step chartA lent 1 1 100 ∷ step chartA lent 1 3 100 ∷ step chartA lent 1 1 1 ∷ bound chartA
-    ∷ step chartA lent 1 1 100 ∷ fresh [] 0 ∷ []
+    step chartA lent 1 1 100 ∷ step chartA lent 1 3 100 ∷ step chartA lent 1 1 1 ∷ step [] lent 1 1 100
+    ∷ step chartA lent 1 1 100 ∷ bound chartA ∷ fresh chartA 0 ∷ []
+
+pub board : Board
+board = afterCalls before old
 
 numbers : List Call → Board → List ℕ
 numbers [] board = []
-numbers (x ∷ xs) board = answer x board .refusal .number ∷ numbers xs (afterCalls (x ∷ []) board)
+numbers (x ∷ xs) board = answer x board .refusal .number ∷ numbers xs (afterCall x board)
 
 refused-before : numbers before old ≡ 13 ∷ 12 ∷ []
 unfolding opened numbers before old lent
 refused-before = refl
 
-some-refused-later : numbers later (boardAfter chartA 1 before [] old) ≡ 0 ∷ 14 ∷ 16 ∷ 0 ∷ 0 ∷ 1 ∷ []
-unfolding opened numbers before later old lent
-some-refused-later = refl
+then-numbers : numbers (fresh chartA 1 ∷ later) board ≡ 0 ∷ 0 ∷ 14 ∷ 16 ∷ 1 ∷ 0 ∷ 0 ∷ 0 ∷ []
+unfolding opened numbers before board later old lent
+then-numbers = refl
 
-made : MadeFresh chartA 1 before later old
-unfolding opened before later old lent
-made = record { made = refl; kept = (λ e. refl, (λ e. refl, (λ e. refl, (tt, (λ e. refl, (λ e. absurd (omega arith), tt)))))) }
+made : Goes (fresh chartA 1) board
+unfolding opened before board old lent
+made = refl
 
-started : notStarted (part (boardAfter chartA 1 before later old) 1) ≡ false
-unfolding opened before later old lent
+-- the call with no chart is refused, and the last one is for lift 0
+kept : KeptOn chartA 1 later (afterCall (fresh chartA 1) board)
+unfolding opened before board later old lent
+kept = (
+  λ g e. refl,
+  (
+    λ g e. refl,
+    (
+      λ g e. refl,
+      (
+        λ g e. absurd (omega (arith, g)),
+        (λ g e. refl, (λ g e. absurd e, (λ g e. absurd (omega arith), tt))),
+      ),
+    ),
+  ),
+)
+
+started : notStarted (part (afterCalls (fresh chartA 1 ∷ later) board) 1) ≡ false
+unfolding opened before board later old lent
 started = refl
 
-pub shaped : WellShaped chartA (part (boardAfter chartA 1 before later old) 1)
-shaped = stays-shaped chartA 1 before later old made started
+pub shaped : WellShaped chartA (part (afterCalls (fresh chartA 1 ∷ later) board) 1)
+shaped = stays-shaped chartA 1 later board made kept started

@@ -37,16 +37,19 @@ unfolding stepRefusal partRefusal
 tests-most c board k e allowance =
     else-most 15 (chartRefusal c) _ (omega (arith, chart-most c))
     (else-most 15 _ _ (unless-most 15 12 _ 0 (omega arith) (omega arith))
-    (unless-most 15 13 _ _ (omega arith) (unless-most 15 14 _ _ (omega arith) (unless-most 15 15 _ 0 (omega arith) (omega arith)))))
+    (unless-most 15 13 _ _ (omega arith)
+    (unless-most 15 14 _ _ (omega arith) (unless-most 15 15 _ 0 (omega arith) (omega arith)))))
 
 pub bound-tests-most : (c : Chart) → (chartRefusal c else boundRefusal c) ≤ 23
 unfolding boundRefusal
 bound-tests-most c =
     else-most 23 (chartRefusal c) _ (omega (arith, chart-most c))
-    (unless-most 23 21 _ _ (omega arith) (unless-most 23 22 _ _ (omega arith) (unless-most 23 23 _ 0 (omega arith) (omega arith))))
+    (unless-most 23 21 _ _ (omega arith)
+    (unless-most 23 22 _ _ (omega arith) (unless-most 23 23 _ 0 (omega arith) (omega arith))))
 
 -- 13 comes of the image alone
-thirteen : (p a w l : Bool) → a ≡ true → ((12 unless p next 0) else (13 unless a next 14 unless w next 15 unless l next 0)) ≡ 13 → ⊥
+thirteen : (p a w l : Bool) → a ≡ true
+    → ((12 unless p next 0) else (13 unless a next 14 unless w next 15 unless l next 0)) ≡ 13 → ⊥
 unfolding _unless_next_ _else_
 thirteen false a w l t e = omega arith
 thirteen true false w l t e = false≢true t

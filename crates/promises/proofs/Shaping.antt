@@ -16,25 +16,26 @@ use Rattle.rules.proofs.Shape.{Fine}
 use Rattle.rules.proofs.Accepting.{wanted, fine-count, count-fine}
 use Rattle.promises.specs.Many.{activeChildren, WellShaped}
 
-module _ (c : Chart) (rt : Right c) (im : Image) where
+module _ (c : Chart) (im : Image) where
   pub fine-shaped : isActive im 0 ≡ true → ((s : State) → s < states c → Fine c (isActive im) s) → WellShaped c im
   unfolding activeChildren wanted if_then_else_
   fine-shaped root fine =
       record {
         root = root;
-        oneOf = λ s h a k. fine-count c rt im s (fine s h) true true a (eq-eqb (kind c s) 1 k);
-        allOf = λ s h a k. fine-count c rt im s (fine s h) true false a (ne-eqb (kind c s) 1 (λ q. omega arith));
-        inactive = λ s h a. fine-count c rt im s (fine s h) false (isOneOf c s) a refl;
+        oneOf = λ s h a k. fine-count c im s (fine s h) true true a (eq-eqb (kind c s) 1 k);
+        allOf = λ s h a k. fine-count c im s (fine s h) true false a (ne-eqb (kind c s) 1 (λ q. omega arith));
+        inactive = λ s h a. fine-count c im s (fine s h) false (isOneOf c s) a refl;
       }
 
-  pub shaped-fine : WellShaped c im → (s : State) → s < states c → Fine c (isActive im) s
+  pub shaped-fine : Right c → WellShaped c im → (s : State) → s < states c → Fine c (isActive im) s
   unfolding activeChildren wanted if_then_else_
-  shaped-fine w s h = count-fine c rt im s (counted (isActive im s) (isOneOf c s) refl refl)
+  shaped-fine rt w s h = count-fine c im s (counted (isActive im s) (isOneOf c s) refl refl)
     where
       none : length (keep (isActive im) (children c s)) ≤ length (children c s)
       none = keep-length (isActive im) (children c s)
 
-      counted : (a o : Bool) → isActive im s ≡ a → isOneOf c s ≡ o → activeChildren c im s ≡ wanted c s (isActive im s) (isOneOf c s)
+      counted : (a o : Bool) → isActive im s ≡ a → isOneOf c s ≡ o
+          → activeChildren c im s ≡ wanted c s (isActive im s) (isOneOf c s)
       counted true true p q = rw (p, q) (w .oneOf s h p (eqb-true (kind c s) 1 q))
       counted true false p q = rw (p, q) (every (ℕ-discrete (kind c s) 2))
         where

@@ -1,4 +1,5 @@
--- Units: where the chart has a bound it is enough, no step takes more, and more units than are enough change nothing. Assumes nothing.
+-- Units: where the chart has a bound it is enough and no step takes more; and more units change no step that had enough. Assumes
+-- nothing.
 use mathlib.Core.Path.{_≡_, refl}
 use mathlib.Core.Logic.{inl, inr}
 use Prim.Native.Nat.{ℕ, zero, suc, _+_, _-_, _≤_}
@@ -13,7 +14,7 @@ use Rattle.rules.specs.Calls.{Board, part, numberOnly, boundTested, boundCall, 
 use Rattle.rules.proofs.Taken.{right}
 use Rattle.rules.proofs.Steady.{Same, steady-step}
 use Rattle.rules.proofs.Bounded.{Bounded, bounded}
-use Rattle.promises.proofs.Calling.{Begun, ending, step-ends, bound-ends}
+use Rattle.promises.proofs.Calling.{Lift, ending, step-ends, bound-ends}
 use Rattle.promises.proofs.Numbers.{tests-most}
 
 -- what the bound call answers
@@ -24,7 +25,7 @@ given c =
     (λ z q e. (q, refl))
 
 module _ (c : Chart) (gives : boundCall c .refusal .number ≡ 0) (board : Board) (trace : Bytes) (k e allowance : ℕ) where
-  has : Begun c board k → Bounded c
+  has : Lift c k board → Bounded c
   has b = bounded c (right c (b .chart)) (given c gives .0)
 
   -- the bound is enough
@@ -34,14 +35,14 @@ module _ (c : Chart) (gives : boundCall c .refusal .number ≡ 0) (board : Board
       step-ends c board k e allowance trace (λ a. a .refusal .number ≡ 16 → ⊥)
       (λ r q n. omega (arith, tests-most c board k e allowance))
       (λ b r q. ending c board trace k e allowance b (refused r) q (has b) (omega (arith, given c gives .1)))
-      (λ b u n q. λ z. omega arith)
+      (λ b l u n q z. omega arith)
 
   -- and no step takes more
   pub units-within : stepCall c board trace k e allowance .units ≤ boundCall c .bound
   unfolding numberOnly stepAnswer
   units-within =
       step-ends c board k e allowance trace (λ a. a .units ≤ boundCall c .bound) (λ r q. omega arith) (λ b r q. omega arith)
-      (λ b u n q. omega (arith, given c gives .1, ending c board trace k e allowance b (went u n) q .1 (has b)))
+      (λ b l u n q. omega (arith, given c gives .1, ending c board trace k e allowance b (went u n) q .1 (has b)))
 
 -- more units change nothing
 module _ (c : Chart) (board : Board) (trace : Bytes) (k e allowance extra : ℕ) where

@@ -1,37 +1,61 @@
--- What a call does to the board: nothing, or it writes its lift's part with an image that its chart accepts. By the ways in which
--- each call ends. Assumes nothing.
-use mathlib.Core.Path.{_≡_}
-use mathlib.Core.Bool.{true}
+-- What a call does to the board: nothing, or, where it is not refused, it writes its lift's part with an image that its chart
+-- accepts, and that is started unless the call is fresh. By the ways in which each call ends. Assumes nothing.
+use mathlib.Core.Path.{_≡_, refl}
+use mathlib.Core.Bool.{true, false}
 use Prim.Native.Nat.{ℕ}
 use lib.ListN.{length}
-use Rattle.rules.specs.Bytes.{Bytes}
-use Rattle.rules.specs.Chart.{Chart}
 use Rattle.rules.specs.Accept.{chartRefusal}
-use Rattle.rules.specs.Image.{Image, imageSize, accepted, freshImage}
-use Rattle.rules.specs.Doing.{went}
-use Rattle.rules.specs.Calls.{Board, withPart, numberOnly, freshCall, stepAnswer, stepCall}
+use Rattle.rules.specs.Image.{Image, imageSize, accepted, notStarted, freshImage}
+use Rattle.rules.specs.Doing.{because, went}
+use Rattle.rules.specs.Calls.{Board, withPart, numberOnly, stepAnswer}
 use Rattle.rules.proofs.Taken.{right, tree}
 use Rattle.rules.proofs.Boards.{Has}
 use Rattle.rules.proofs.Freshness.{fresh-size, fresh-accepted}
 use Rattle.rules.proofs.Accepting.{good-accepted}
+use Rattle.rules.proofs.Stepping.{good-started}
+use Rattle.promises.specs.Many.{Call, fresh, step, bound, Goes, afterCall, chartOf, IsFor, IsFresh}
 use Rattle.promises.proofs.Calling.{ending, fresh-ends, step-ends}
 
-pub data Wrote (c : Chart) (k : ℕ) (board : Board) : Board → Type 0 where
-  nothing : Wrote c k board board
-  image : (im : Image) → chartRefusal c ≡ 0 → Has board k → length im ≡ imageSize → accepted im c ≡ true
-      → Wrote c k board (withPart board k im)
+-- an image that call x can write for lift k
+pub record Written (x : Call) (k : ℕ) (board : Board) (im : Image) : Type 0 where
+  pub for : IsFor k x
+  pub chart : chartRefusal (chartOf x) ≡ 0
+  pub has : Has board k
+  pub size : length im ≡ imageSize
+  pub taken : accepted im (chartOf x) ≡ true
+  pub started : (IsFresh k x → ⊥) → notStarted im ≡ false
 
-pub fresh-writes : (c : Chart) (board : Board) (k : ℕ) → Wrote c k board (freshCall c board k .board)
-unfolding numberOnly
-fresh-writes c board k =
-    fresh-ends c board k (λ a. Wrote c k board (a .board)) (λ r. nothing)
-    (λ z h. let t = tree c (right c z) in image (freshImage c) z h (fresh-size c t) (fresh-accepted c t))
+pub data Wrote (x : Call) (board : Board) (goes : Type 0) : Board → Type 0 where
+  nothing : Wrote x board goes board
+  image : goes → (k : ℕ) (im : Image) → Written x k board im → Wrote x board goes (withPart board k im)
 
-pub step-writes : (c : Chart) (board : Board) (trace : Bytes) (k e allowance : ℕ)
-    → Wrote c k board (stepCall c board trace k e allowance .board)
-unfolding numberOnly stepAnswer
-step-writes c board trace k e allowance =
-    step-ends c board k e allowance trace (λ a. Wrote c k board (a .board)) (λ r q. nothing) (λ b r q. nothing)
-    (λ b u n w.
+pub call-writes : (x : Call) (board : Board) → Wrote x board (Goes x board) (afterCall x board)
+unfolding numberOnly because stepAnswer
+call-writes (fresh c k) board =
+    fresh-ends c board k (λ a. Wrote (fresh c k) board (a .refusal .number ≡ 0) (a .board)) (λ r. nothing)
+    (λ z h.
+    let t = tree c (right c z) in
+    image refl k (freshImage c)
+    (record {
+      for = refl;
+      chart = z;
+      has = h;
+      size = fresh-size c t;
+      taken = fresh-accepted c t;
+      started = λ not. absurd (not refl);
+    }))
+call-writes (step c trace k e allowance) board =
+    step-ends c board k e allowance trace (λ a. Wrote (step c trace k e allowance) board (a .refusal .number ≡ 0) (a .board))
+    (λ r q. nothing) (λ b r q. nothing)
+    (λ b l u n w.
     let g = ending c board trace k e allowance b (went u n) w .0 in
-    image (n .image) (b .chart) (b .has) (g .sound .size) (good-accepted c (right c (b .chart)) (n .image) g))
+    image refl k (n .image)
+    (record {
+      for = refl;
+      chart = b .chart;
+      has = b .has;
+      size = g .sound .size;
+      taken = good-accepted c (n .image) g;
+      started = λ _. good-started c (n .image) g;
+    }))
+call-writes (bound c) board = nothing

@@ -2,7 +2,7 @@
 use mathlib.Core.Path.{_≡_}
 use mathlib.Core.Logic.{_⊎_}
 use mathlib.Core.Bool.{true, false}
-use mathlib.Core.List.{List, [], _∷_, _++_}
+use mathlib.Core.List.{List, [], _∷_}
 use Prim.Native.Nat.{ℕ, _+_, _*_, _≤_, _<_}
 use lib.ListN.{length}
 use Rattle.rules.specs.Bytes.{Bytes}
@@ -23,6 +23,10 @@ answer (fresh c k) board = freshCall c board k
 answer (step c trace k e allowance) board = stepCall c board trace k e allowance
 answer (bound c) board = boundCall c
 
+-- it is not refused
+abbrev pub Goes : Call → Board → Type 0
+Goes x board = answer x board .refusal .number ≡ 0
+
 -- the board after it, refused or not; the bound call is lent none
 abbrev pub afterCall : Call → Board → Board
 afterCall (fresh c k) board = freshCall c board k .board
@@ -34,24 +38,38 @@ abbrev pub afterCalls : List Call → Board → Board
 afterCalls [] board = board
 afterCalls (x ∷ xs) board = afterCalls xs (afterCall x board)
 
--- the call is not for lift k, or it is with chart c
-abbrev pub KeepsOn : Chart → ℕ → Call → Type 0
-KeepsOn c k (fresh c′ j) = j ≡ k → c′ ≡ c
-KeepsOn c k (step c′ trace j e allowance) = j ≡ k → c′ ≡ c
-KeepsOn c k (bound c′) = Unit {0}
+abbrev pub chartOf : Call → Chart
+chartOf (fresh c k) = c
+chartOf (step c trace k e allowance) = c
+chartOf (bound c) = c
 
-abbrev pub AllKeepOn : Chart → ℕ → List Call → Type 0
-AllKeepOn c k [] = Unit {0}
-AllKeepOn c k (x ∷ xs) = KeepsOn c k x × AllKeepOn c k xs
+-- the call is for lift k; it is a fresh call for lift k
+abbrev pub IsFor : ℕ → Call → Type 0
+IsFor k (fresh c j) = j ≡ k
+IsFor k (step c trace j e allowance) = j ≡ k
+IsFor k (bound c) = ⊥
 
--- after some calls lift k was made fresh for chart c, which was not refused; the later calls keep it on that chart
-pub record MadeFresh (c : Chart) (k : ℕ) (before later : List Call) (board : Board) : Type 0 where
-  pub made : answer (fresh c k) (afterCalls before board) .refusal .number ≡ 0
-  pub kept : AllKeepOn c k later
+abbrev pub IsFresh : ℕ → Call → Type 0
+IsFresh k (fresh c j) = j ≡ k
+IsFresh k (step c trace j e allowance) = ⊥
+IsFresh k (bound c) = ⊥
 
--- the board after all of these calls
-abbrev pub boardAfter : Chart → ℕ → List Call → List Call → Board → Board
-boardAfter c k before later board = afterCalls (before ++ (fresh c k ∷ later)) board
+-- P holds of each of the calls that is not refused, on the board as it is then
+abbrev pub EachThatGoes : (Call → Type 0) → List Call → Board → Type 0
+EachThatGoes P [] board = Unit {0}
+EachThatGoes P (x ∷ xs) board = (Goes x board → P x) × EachThatGoes P xs (afterCall x board)
+
+-- lift k is kept on chart c: those for it have that chart
+abbrev pub KeptOn : Chart → ℕ → List Call → Board → Type 0
+KeptOn c k = EachThatGoes (λ x. IsFor k x → chartOf x ≡ c)
+
+-- lift k is not made fresh
+abbrev pub NotMadeFresh : ℕ → List Call → Board → Type 0
+NotMadeFresh k = EachThatGoes (λ x. IsFresh k x → ⊥)
+
+-- none is for lift k
+abbrev pub LeftAlone : ℕ → List Call → Board → Type 0
+LeftAlone k = EachThatGoes (λ x. IsFor k x → ⊥)
 
 -- how many children of s are active
 unfoldable pub activeChildren : Chart → Image → State → ℕ
@@ -68,28 +86,6 @@ pub record WellShaped (c : Chart) (im : Image) : Type 0 where
   -- none under an inactive state
   pub inactive : (s : State) → s < states c → isActive im s ≡ false → activeChildren c im s ≡ 0
 
--- the call does not make lift k fresh
-abbrev pub NotFresh : ℕ → Call → Type 0
-NotFresh k (fresh c j) = k ≡ j → ⊥
-NotFresh k (step c trace j e allowance) = Unit {0}
-NotFresh k (bound c) = Unit {0}
-
-abbrev pub AllNotFresh : ℕ → List Call → Type 0
-AllNotFresh k [] = Unit {0}
-AllNotFresh k (x ∷ xs) = NotFresh k x × AllNotFresh k xs
-
--- the call is not for lift k
-abbrev pub NotFor : ℕ → Call → Type 0
-NotFor k (fresh c j) = k ≡ j → ⊥
-NotFor k (step c trace j e allowance) = k ≡ j → ⊥
-NotFor k (bound c) = Unit {0}
-
-abbrev pub AllNotFor : ℕ → List Call → Type 0
-AllNotFor k [] = Unit {0}
-AllNotFor k (x ∷ xs) = NotFor k x × AllNotFor k xs
-
--- byte i of the board stands outside the part of the call's lift
-abbrev pub Outside : ℕ → Call → Type 0
-Outside i (fresh c k) = (i < imageSize * k) ⊎ (imageSize * k + imageSize ≤ i)
-Outside i (step c trace k e allowance) = (i < imageSize * k) ⊎ (imageSize * k + imageSize ≤ i)
-Outside i (bound c) = Unit {0}
+-- byte i of a board stands outside lift k's part
+abbrev pub Outside : ℕ → ℕ → Type 0
+Outside k i = (i < imageSize * k) ⊎ (imageSize * k + imageSize ≤ i)

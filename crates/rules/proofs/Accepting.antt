@@ -16,7 +16,7 @@ use Rattle.rules.specs.Image.{Image, isActive, recorded, notStarted, res
 use Rattle.rules.proofs.Laws.{both, and-left, and-right, and-both, or-cases, or-left, or-right, clash}
 use Rattle.rules.proofs.Members.{Mem, keep-mem, mem-keep, isIn-mem, mem-isIn, every-below, below-every, every-range, range-every, keep-none, keep-all, none-kept, all-kept}
 use Rattle.rules.proofs.Distinct.{Distinct, keep-distinct}
-use Rattle.rules.proofs.Taken.{Right, children-mem, mem-children, each-of}
+use Rattle.rules.proofs.Taken.{children-mem, mem-children, each-of}
 use Rattle.rules.proofs.Soundness.{Recordable, Sound}
 use Rattle.rules.proofs.Shape.{Fine, Good}
 use Rattle.rules.proofs.Weights.{children-distinct}
@@ -37,7 +37,7 @@ single (x ∷ (y ∷ ys)) e = absurd (omega arith)
 unfoldable pub wanted : Chart → State → Bool → Bool → ℕ
 wanted c s active oneOf = if active then (if oneOf then 1 else length (children c s)) else 0
 
-module _ (c : Chart) (rt : Right c) (im : Image) (s : State) where
+module _ (c : Chart) (im : Image) (s : State) where
   -- the active children
   abbrev active : List State
   active = keep (isActive im) (children c s)
@@ -85,7 +85,7 @@ module _ (c : Chart) (rt : Right c) (im : Image) (s : State) where
   sound-history (inr (k, ch)) =
       or-right (eqb (recorded im s) 0) _ (and-both (keepsHistory c s) _ k (mem-isIn _ _ (mem-children c s _ ch)))
 
-module _ (c : Chart) (rt : Right c) (im : Image) where
+module _ (c : Chart) (im : Image) where
   abbrev unused : State → Bool
   unused s = not (isActive im s) && eqb (recorded im s) 0
 
@@ -108,19 +108,19 @@ module _ (c : Chart) (rt : Right c) (im : Image) where
         noState = λ s p q. not-true _ (and-left (not (isActive im s)) _ (idle s p q));
         noRecord = λ s p q. eqb-true _ _ (and-right (not (isActive im s)) _ (idle s p q));
         noVariable = λ v p q. eqb-true _ _ (every-range _ (variables c) 32 noVariables v p q);
-        records = λ s h. history-sound c rt im s (every-below (historySound im c) (states c) (each-of _ e 3 (omega arith)) s h);
+        records = λ s h. history-sound c im s (every-below (historySound im c) (states c) (each-of _ e 3 (omega arith)) s h);
       }
 
   shape-good : Sound c im → shape im c ≡ true → Good c im
   unfolding shape
   shape-good so e =
       let (root, shapes) = both (isActive im 0) _ e in
-      record { sound = so; root = root; fine = λ s h. shape-fine c rt im s (every-below (shapeAt im c) (states c) shapes s h) }
+      record { sound = so; root = root; fine = λ s h. shape-fine c im s (every-below (shapeAt im c) (states c) shapes s h) }
 
   good-shape : Good c im → shape im c ≡ true
   unfolding shape
   good-shape g =
-      and-both (isActive im 0) _ (g .root) (below-every (shapeAt im c) (states c) (λ s h. fine-shape c rt im s (g .fine s h)))
+      and-both (isActive im 0) _ (g .root) (below-every (shapeAt im c) (states c) (λ s h. fine-shape c im s (g .fine s h)))
 
   -- not started, or of that shape
   pub started-good : accepted im c ≡ true → notStarted im ≡ false → Good c im
@@ -131,5 +131,5 @@ module _ (c : Chart) (rt : Right c) (im : Image) where
   pub good-accepted : Good c im → accepted im c ≡ true
   unfolding accepted all every
   good-accepted g =
-      let history = below-every (historySound im c) (states c) (λ s h. sound-history c rt im s (g .sound .records s h)) in
+      let history = below-every (historySound im c) (states c) (λ s h. sound-history c im s (g .sound .records s h)) in
       rw (g .sound .size, g .sound .mark, rest-zero (g .sound), history, or-right (notStarted im) _ (good-shape g))

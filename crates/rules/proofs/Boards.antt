@@ -12,18 +12,15 @@ use lib.Seq.{length-take-le, take-at, drop-at, getD-take, getD-drop, ext-getD}
 use borrow.Author.Tests.{leb-true}
 use Rattle.rules.specs.Bytes.{Bytes, byte}
 use Rattle.rules.specs.Calls.{Board, part, withPart, partRefusal}
-use Rattle.rules.proofs.Laws.{and-left, and-right, unless-zero}
+use Rattle.rules.proofs.Laws.{and-right, unless-zero}
 
 -- lift k's part is on the board
-pub record Has (board : Board) (k : ℕ) : Type 0 where
-  pub lift : k ≤ 63
-  pub room : 202 * k + 202 ≤ length board
+abbrev pub Has : Board → ℕ → Type 0
+Has board k = 202 * k + 202 ≤ length board
 
 pub part-has : (board : Board) (k : ℕ) → partRefusal board k ≡ 0 → Has board k
 unfolding partRefusal
-part-has board k e =
-    let (t, r) = unless-zero 11 _ _ e in
-    record { lift = leb-true _ _ (and-left (leb k 63) _ t); room = leb-true _ _ (and-right (leb k 63) _ t) }
+part-has board k e = let (t, r) = unless-zero 11 _ _ e in leb-true _ _ (and-right (leb k 63) _ t)
 
 part-size : (board : Bytes) (k : ℕ) → length (part board k) ≡ min 202 (length board - 202 * k)
 unfolding part
@@ -33,7 +30,7 @@ part-byte : (board : Bytes) (k i : ℕ) → i < 202 → byte (part board k) i �
 unfolding part
 part-byte board k i h = rw (getD-take, getD-drop)
 
-module _ (board im : Bytes) (k : ℕ) (room : 202 * k + 202 ≤ length board) (size : length im ≡ 202) where
+module _ (board im : Bytes) (k : ℕ) (room : Has board k) (size : length im ≡ 202) where
   before : length (take (202 * k) board) ≡ 202 * k
   before = length-take-le (202 * k) board (omega arith)
 

@@ -2,7 +2,7 @@
 -- junction leads back to itself, so a way passes at most as many junctions as there are. Assumes nothing.
 use mathlib.Core.Path.{_≡_, refl, sym, ap}
 use mathlib.Core.Logic.{inl, inr}
-use mathlib.Core.Bool.{Bool, true, false, not}
+use mathlib.Core.Bool.{true, false, not}
 use mathlib.Core.List.{List, [], _∷_, List·Memᴰ·head, List·Memᴰ·cases-cons, List·Memᴰ·not-nil, List·Memᴰ·eq-of-singleton}
 use Prim.Native.Nat.{ℕ, zero, suc, _+_, _≤_, _<_}
 use native.Mathlib.Numerals.{add-one}
@@ -13,7 +13,7 @@ use Rattle.rules.specs.Lists.{if_then_else_, below, isIn, sumOver}
 use Rattle.rules.specs.Chart.{Junction, Segment, Chart, junctions, segments, instructions, destination, condition, conditionAction, instruction, own, endsOnState}
 use Rattle.rules.specs.Accept.{isSend}
 use Rattle.rules.specs.Bound.{WWithin, W, leads, onward, reaches, loops, boundRefusal}
-use Rattle.rules.proofs.Laws.{clash, and-both, or-cases, or-left, or-right, if-false, unless-zero}
+use Rattle.rules.proofs.Laws.{two, clash, and-both, or-cases, or-left, or-right, if-false, unless-zero}
 use Rattle.rules.proofs.Members.{Mem, mem-any, keep-mem, mem-keep, isIn-mem, mem-isIn, below-mem, mem-below, every-below}
 use Rattle.rules.proofs.Sums.{sum-le}
 use Rattle.rules.proofs.Taken.{Right, to-junction}
@@ -57,15 +57,15 @@ module _ (c : Chart) where
         ]
 
   -- the junctions of a way to j, which is one of them: none comes twice, and from each the way leads on to j
-  record Way (j : Junction) (vs : List Junction) : Type 0 where
+  record JunctionsTo (j : Junction) (vs : List Junction) : Type 0 where
     distinct : Distinct vs
     real : (v : Junction) → Mem v vs → v < junctions c
     reach : (v : Junction) → Mem v vs → reaches c j (length vs) (v ∷ []) ≡ true
 
-  short : {j : Junction} {vs : List Junction} → Way j vs → length vs ≤ junctions c
+  short : {j : Junction} {vs : List Junction} → JunctionsTo j vs → length vs ≤ junctions c
   short {vs = vs} p = few (junctions c) vs (p .distinct) (p .real)
 
-  start : (j : Junction) → j < junctions c → Way j (j ∷ [])
+  start : (j : Junction) → j < junctions c → JunctionsTo j (j ∷ [])
   start j h =
       record {
         distinct = (List·Memᴰ·not-nil, tt);
@@ -77,18 +77,17 @@ module _ (c : Chart) where
   abbrev ahead : ℕ → Junction → ℕ
   ahead n j = sumOver (λ u. WWithin c n u) (own c j)
 
-  further : (n : ℕ) (t : Segment) → (endsOnState c t ≡ false → ahead (suc n) (destination c t) ≤ ahead n (destination c t))
+  -- one level deeper a segment weighs no more, if those after it don't
+  weighs-no-more : (n : ℕ) (t : Segment)
+      → (endsOnState c t ≡ false → ahead (suc n) (destination c t) ≤ ahead n (destination c t))
       → WWithin c (suc (suc n)) t ≤ WWithin c (suc n) t
   unfolding WWithin if_then_else_
-  further n t h = let l = go (endsOnState c t) h in omega arith
-    where
-      go : (b : Bool) {x y : ℕ} → (b ≡ false → x ≤ y) → (if b then 0 else x) ≤ (if b then 0 else y)
-      go true g = omega arith
-      go false g = g refl
+  weighs-no-more n t h =
+      elim (two (endsOnState c t)) [ inl e ↦ rw e (omega arith) | inr e ↦ rw e (omega (arith, h e)) ]
 
   module _ (r : Right c) (free : (j : Junction) → j < junctions c → loops c j ≡ false) where
-    next : {j : Junction} {vs : List Junction} (t : Segment) → Way j vs → Mem t (own c j) → endsOnState c t ≡ false
-        → Way (destination c t) (destination c t ∷ vs)
+    next : {j : Junction} {vs : List Junction} (t : Segment) → JunctionsTo j vs → Mem t (own c j) → endsOnState c t ≡ false
+        → JunctionsTo (destination c t) (destination c t ∷ vs)
     unfolding loops reaches
     next {j} {vs} t p m e =
         record {
@@ -110,14 +109,15 @@ module _ (c : Chart) where
         on {v} n g i = reach-on j d (own-leads j t m e) h (length vs) n (v ∷ []) g (p .reach v i)
 
     -- a way with vs behind it ends before n segments more
-    stable : (n : ℕ) {j : Junction} {vs : List Junction} → Way j vs → junctions c < n + length vs → ahead (suc n) j ≤ ahead n j
+    stable : (n : ℕ) {j : Junction} {vs : List Junction} → JunctionsTo j vs → junctions c < n + length vs
+        → ahead (suc n) j ≤ ahead n j
     stable zero p h = let l = short p in absurd (omega arith)
-    stable (suc n) {j} p h = sum-le _ _ (own c j) (λ t m. further n t (λ e. stable n (next t p m e) (omega arith)))
+    stable (suc n) {j} p h = sum-le _ _ (own c j) (λ t m. weighs-no-more n t (λ e. stable n (next t p m e) (omega arith)))
 
     enough : (t : Segment) → t < segments c → WWithin c (suc (junctions c + 1)) t ≤ WWithin c (junctions c + 1) t
     enough t h =
         rw (add-one (junctions c))
-        (further (junctions c) t (λ e. stable (junctions c) (start _ (to-junction c r t h e)) (omega arith)))
+        (weighs-no-more (junctions c) t (λ e. stable (junctions c) (start _ (to-junction c r t h e)) (omega arith)))
 
 pub bounded : (c : Chart) → Right c → boundRefusal c ≡ 0 → Bounded c
 unfolding boundRefusal W WWithin

@@ -44,7 +44,7 @@ module _ {Φ : (A : Type 0) → Doing A → Type 0} (law : Closed Φ) where
   unfolding D._>>=_ D._>>_
   hm >> hk = hm >>= (λ _. hk)
 
-  pub done-has : Φ _ done
+  done-has : Φ _ done
   unfolding done
   done-has = gives tt
 
@@ -55,26 +55,26 @@ module _ {Φ : (A : Type 0) → Doing A → Type 0} (law : Closed Φ) where
     if-has false hm hk = hk
 
     -- the test is of the image as it is now
-    pub choice-has : {m k : Doing A} (t : Image → Bool) → Φ _ m → Φ _ k → Φ _ (λ n. if t (n .image) then m n else k n)
+    choice-has : {m k : Doing A} (t : Image → Bool) → Φ _ m → Φ _ k → Φ _ (λ n. if t (n .image) then m n else k n)
     unfolding D._>>=_ look
     choice-has {m} {k} t hm hk =
         subst (Φ _) (fun-ext (λ n. either m k n (t (n .image)))) (looks >>= (λ im. if-has (t im) hm hk))
 
-    pub unless-has : (r : Ran) (a : A) {f : Stack → Doing A} → ((st : Stack) → Φ _ (f st)) → Φ _ (unlessAbandoned r a f)
+    unless-has : (r : Ran) (a : A) {f : Stack → Doing A} → ((st : Stack) → Φ _ (f st)) → Φ _ (unlessAbandoned r a f)
     unfolding unlessAbandoned
     unless-has (ran st) a hf = hf st
     unless-has abandoned a hf = gives a
 
-  pub each-has : {f : ℕ → Done} → ((x : ℕ) → Φ _ (f x)) → (xs : List ℕ) → Φ _ (each f xs)
+  each-has : {f : ℕ → Done} → ((x : ℕ) → Φ _ (f x)) → (xs : List ℕ) → Φ _ (each f xs)
   unfolding each
   each-has hf [] = done-has
   each-has hf (x ∷ xs) = hf x >> each-has hf xs
 
-  pub active-has : (s : State) {m : Done} → Φ _ m → Φ _ (whenActive s m)
+  active-has : (s : State) {m : Done} → Φ _ m → Φ _ (whenActive s m)
   unfolding whenActive
   active-has s hm = choice-has (λ im. isActive im s) hm done-has
 
-  pub next-has : (o : Found) {m : Doing Found} → Φ _ m → Φ _ (orNext o m)
+  next-has : (o : Found) {m : Doing Found} → Φ _ m → Φ _ (orNext o m)
   unfolding orNext
   next-has (reached s path) hm = gives _
   next-has nowhere hm = hm
@@ -83,15 +83,15 @@ module _ {Φ : (A : Type 0) → Doing A → Type 0} (law : Closed Φ) where
 
   -- a block
 
-  pub binary-has : (f : ℤ → ℤ → ℤ) (st : Stack) → Φ _ (binary f st)
+  binary-has : (f : ℤ → ℤ → ℤ) (st : Stack) → Φ _ (binary f st)
   unfolding binary
   binary-has f st = gives _
 
-  pub checked-has : (f : ℤ → ℤ → ℤ) (st : Stack) → Φ _ (checked f st)
+  checked-has : (f : ℤ → ℤ → ℤ) (st : Stack) → Φ _ (checked f st)
   unfolding checked
   checked-has f st = if-has _ (binary-has f st) (refuses 17 (omega arith) (omega arith))
 
-  pub divided-has : (st : Stack) {m : Doing Ran} → Φ _ m → Φ _ (divided st m)
+  divided-has : (st : Stack) {m : Doing Ran} → Φ _ m → Φ _ (divided st m)
   unfolding divided
   divided-has st hm = if-has _ (refuses 17 (omega arith) (omega arith)) hm
 
@@ -130,14 +130,14 @@ module _ {Φ : (A : Type 0) → Doing A → Type 0} (law : Closed Φ) where
       r ← instruct-has (i .op) i st
       unless-has r abandoned (λ st′. perform-has st′ is)
 
-  pub action-has : (c : Chart) (k : Block) → Φ _ (action c k)
+  action-has : (c : Chart) (k : Block) → Φ _ (action c k)
   unfolding action
   action-has c k = perform-has noSend-has [] _ >> done-has
 
   module _ (c : Chart) where
     -- the search
 
-    pub holds-has : (t : Segment) → Φ _ (holds c t)
+    holds-has : (t : Segment) → Φ _ (holds c t)
     unfolding holds
     holds-has t = if-has _ (gives true) (do
       r ← perform-has noSend-has [] _
@@ -148,7 +148,7 @@ module _ {Φ : (A : Type 0) → Doing A → Type 0} (law : Closed Φ) where
     passes-has e t = if-has _ (holds-has t) (gives false)
 
     module _ {sending : Sending} (hs : (e : ℕ) (b : State) → Φ _ (sending e b)) (e : ℕ) (source : State) where
-      pub tries-has : {f : Segment → Doing Found} → ((t : Segment) → Φ _ (f t))
+      tries-has : {f : Segment → Doing Found} → ((t : Segment) → Φ _ (f t))
           → (ts : List Segment) → Φ _ (tries c sending e source f ts)
       unfolding tries
       tries-has hf [] = gives nowhere
@@ -158,7 +158,7 @@ module _ {Φ : (A : Type 0) → Doing A → Type 0} (law : Closed Φ) where
         o ← if-has b (hf t) (gives nowhere)
         next-has o (tries-has hf ts)
 
-      pub passed-has : (n : ℕ) (path : List Segment) (t : Segment) → Φ _ (passed c sending e source n path t)
+      passed-has : (n : ℕ) (path : List Segment) (t : Segment) → Φ _ (passed c sending e source n path t)
       unfolding passed
       passed-has zero path t = refuses 19 (omega arith) (omega arith)
       passed-has (suc n) path t = do
@@ -173,15 +173,15 @@ module _ {Φ : (A : Type 0) → Doing A → Type 0} (law : Closed Φ) where
 
     -- leaving, entering and firing
 
-    pub leaveEach-has : {f : State → Done} → ((s : State) → Φ _ (f s)) → (s : State) → Φ _ (leaveEach c f s)
+    leaveEach-has : {f : State → Done} → ((s : State) → Φ _ (f s)) → (s : State) → Φ _ (leaveEach c f s)
     unfolding leaveEach
     leaveEach-has hf s = each-has (λ k. active-has k (hf k)) _
 
-    pub noteLeft-has : (s : State) → Φ _ (noteLeft c s)
+    noteLeft-has : (s : State) → Φ _ (noteLeft c s)
     unfolding noteLeft
     noteLeft-has s = if-has _ (changes _) done-has
 
-    pub leave-has : (d : ℕ) (s : State) → Φ _ (leave c d s)
+    leave-has : (d : ℕ) (s : State) → Φ _ (leave c d s)
     unfolding leave
     leave-has zero s = done-has
     leave-has (suc d) s = do
@@ -192,11 +192,11 @@ module _ {Φ : (A : Type 0) → Doing A → Type 0} (law : Closed Φ) where
       changes _
       notes _ s
 
-    pub enterEach-has : {f : State → Done} → ((s : State) → Φ _ (f s)) → (target s : State) → Φ _ (enterEach c f target s)
+    enterEach-has : {f : State → Done} → ((s : State) → Φ _ (f s)) → (target s : State) → Φ _ (enterEach c f target s)
     unfolding enterEach
     enterEach-has hf target s = looks >>= (λ im. each-has hf _)
 
-    pub enter-has : (d : ℕ) (target s : State) → Φ _ (enter c d target s)
+    enter-has : (d : ℕ) (target s : State) → Φ _ (enter c d target s)
     unfolding enter
     enter-has zero target s = done-has
     enter-has (suc d) target s = do
@@ -206,7 +206,7 @@ module _ {Φ : (A : Type 0) → Doing A → Type 0} (law : Closed Φ) where
       action-has c _
       enterEach-has (λ k. enter-has d target k) target s
 
-    pub transit-has : (t : Segment) → Φ _ (transit c t)
+    transit-has : (t : Segment) → Φ _ (transit c t)
     unfolding transit
     transit-has t = notes _ t >> action-has c _
 
@@ -219,34 +219,34 @@ module _ {Φ : (A : Type 0) → Doing A → Type 0} (law : Closed Φ) where
 
     -- a run, a send and a step
 
-    pub follow-has : (p : State) (o : Found) {rest : Done} → Φ _ rest → Φ _ (follow c p o rest)
+    follow-has : (p : State) (o : Found) {rest : Done} → Φ _ rest → Φ _ (follow c p o rest)
     unfolding follow
     follow-has p (reached s path) hr = fire-has p s path
     follow-has p nowhere hr = hr
     follow-has p ended hr = hr
     follow-has p cut hr = done-has
 
-    pub runActive-has : {f : State → Done} → ((s : State) → Φ _ (f s)) → (p : State) → Φ _ (runActive c f p)
+    runActive-has : {f : State → Done} → ((s : State) → Φ _ (f s)) → (p : State) → Φ _ (runActive c f p)
     unfolding runActive
     runActive-has hf p = looks >>= (λ im. if-has _ done-has (hf _))
 
-    pub runChildren-has : {f : State → Done} → ((s : State) → Φ _ (f s)) → (p : State) → Φ _ (runChildren c f p)
+    runChildren-has : {f : State → Done} → ((s : State) → Φ _ (f s)) → (p : State) → Φ _ (runChildren c f p)
     unfolding runChildren
     runChildren-has hf p = if-has _ (runActive-has hf p) (each-has (λ s. active-has s (hf s)) _)
 
     module _ {sending : Sending} (hs : (e : ℕ) (b : State) → Φ _ (sending e b)) (e : ℕ) where
-      pub runInside-has : {f : State → Done} → ((s : State) → Φ _ (f s)) → (p : State) → Φ _ (runInside c sending e f p)
+      runInside-has : {f : State → Done} → ((s : State) → Φ _ (f s)) → (p : State) → Φ _ (runInside c sending e f p)
       unfolding runInside
       runInside-has hf p = search-has hs e p _ >>= (λ o. follow-has p o (runChildren-has hf p))
 
-      pub runDuring-has : {f : State → Done} → ((s : State) → Φ _ (f s)) → (p : State) → Φ _ (runDuring c sending e f p)
+      runDuring-has : {f : State → Done} → ((s : State) → Φ _ (f s)) → (p : State) → Φ _ (runDuring c sending e f p)
       unfolding runDuring
       runDuring-has hf p = do
         notes _ p
         r ← perform-has (sentBy-has hs p) [] _
         unless-has r tt (λ _. runInside-has hf p)
 
-      pub run-has : (d : ℕ) (p : State) → Φ _ (run c sending e d p)
+      run-has : (d : ℕ) (p : State) → Φ _ (run c sending e d p)
       unfolding run
       run-has zero p = done-has
       run-has (suc d) p = do
@@ -259,7 +259,7 @@ module _ {Φ : (A : Type 0) → Doing A → Type 0} (law : Closed Φ) where
     send-has zero e b = active-has b (refuses 18 (omega arith) (omega arith))
     send-has (suc n) e b = active-has b (run-has (λ e′ b′. send-has n e′ b′) e levels b)
 
-    pub start-has : Φ _ (start c)
+    start-has : Φ _ (start c)
     unfolding start
     start-has = enter-has levels 0 0
 

@@ -24,7 +24,7 @@ use Rattle.rules.proofs.Triple.{Triple, t-weak, t-post, t-more, t-from,
 use Rattle.rules.proofs.Bounded.{Bounded}
 use Rattle.rules.proofs.Blocks.{Quiet, t-action}
 use Rattle.rules.proofs.Shape.{Fine, fine-but}
-use Rattle.rules.proofs.Leaving.{MovedAt, MovedBelow, unmoved, moved-child, turned}
+use Rattle.rules.proofs.Moving.{MovedAt, MovedBelow, unmoved, moved-child, turned}
 
 -- which children of s may be entered: all, or one
 record Choice (c : Chart) (s : State) (ks : List State) : Type 0 where
@@ -125,10 +125,10 @@ module _ (c : Chart) (rt : Right c) where
     entering-came : {k : State} {xs : List State} {im₁ im : Image} → Entering (k ∷ xs) im₁ → Came c k im₁ im → Entering xs im
     entering-came {k} a g =
         record {
-          moved = moved-child c rt (a .moved) (next a) (g .moved);
+          moved = moved-child c tr (a .moved) (next a) (g .moved);
           chosen = λ j m. a .chosen j (List·Memᴰ·tail m);
           distinct = a .distinct .1;
-          came = λ j m. turned c rt (next a) (picks .kids j m) (g .moved) (g .on) (a .came j m);
+          came = λ j m. turned c tr (next a) (picks .kids j m) (g .moved) (g .on) (a .came j m);
           active = λ j cj e. elim (ℕ-discrete j k) [
             | yes q ↦ rw q (a .chosen k (List·Memᴰ·head refl), a .distinct .0)
             | no d ↦
@@ -229,9 +229,7 @@ module _ (c : Chart) (rt : Right c) where
   pub t-enter : (d n : ℕ) → n + d ≡ 9 → (target k : State) → k < states c → Deep c n k
       → Enters c k (weigh c (enteringCost c) d k) (enter c d target k)
   unfolding enter weigh enteringCost
-  t-enter zero n e target k h deep im₀ a =
-      let q : n ≡ 9 = omega arith in
-      absurd (deep-end c tr k h (rw q at deep))
+  t-enter zero n e target k h deep im₀ a = absurd (deep-end c tr n k (omega arith) h deep)
   t-enter (suc d) n e target k h deep im₀ a =
       t-more (λ x. omega arith)
       (t-then t-pay

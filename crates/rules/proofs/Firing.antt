@@ -1,6 +1,6 @@
 -- Firing keeps the shape, at the cost of at most G: the arena is active, so what is left below it can be entered again, and a
 -- path on which no segment comes twice performs no more than all transition actions. Assumes nothing.
-use mathlib.Core.Path.{_≡_, refl, _∙_}
+use mathlib.Core.Path.{_≡_, refl, ap, _∙_}
 use mathlib.Core.Logic.{inl, inr}
 use mathlib.Core.Bool.{Bool, true, false, _&&_}
 use mathlib.Core.List.{List, [], List·Memᴰ·cases-cons, List·Memᴰ·not-nil, List·Memᴰ·eq-of-singleton}
@@ -9,7 +9,7 @@ use native.Mathlib.Decide.{ℕ-discrete}
 use native.Mathlib.Omega.{arith}
 use lib.Dec.{eqb}
 use Rattle.rules.specs.Lists.{if_then_else_, below, first, sumOver}
-use Rattle.rules.specs.Chart.{State, Segment, Chart, deepest, states, segments, parent, entry, exit, transitionAction, children, line}
+use Rattle.rules.specs.Chart.{State, Segment, Chart, deepest, states, segments, parent, transitionAction, children, line}
 use Rattle.rules.specs.Image.{Image, isActive}
 use Rattle.rules.specs.Doing.{each, transitionPerformed}
 use Rattle.rules.specs.Fire.{leave, enter, arena, common, transit, fire}
@@ -18,6 +18,7 @@ use Rattle.rules.proofs.Laws.{clash, two}
 use Rattle.rules.proofs.Members.{Mem, first-mem, mem-below}
 use Rattle.rules.proofs.Distinct.{Distinct, light}
 use Rattle.rules.proofs.Taken.{Tree, Right, tree, transitionAction-valid}
+use Rattle.rules.proofs.Trees.{child-of-parent}
 use Rattle.rules.proofs.Sums.{sum-both}
 use Rattle.rules.proofs.Weights.{weigh, weigh-children}
 use Rattle.rules.proofs.Triple.{Triple, t-post, t-more, t-from, t-then, t-note, t-each-in}
@@ -64,7 +65,7 @@ module _ (c : Chart) (rt : Right c) where
           state = h;
           on = elim (two (isActive im (parent c (suc s)))) [
             | inl e ↦ e
-            | inr e ↦ clash (u .on) (g .fine _ h .idle e _ (record { above = omega arith; state = u .state; of = refl }))
+            | inr e ↦ clash (u .on) (g .fine _ h .idle e _ (child-of-parent (omega arith) (u .state)))
           ];
         }
 
@@ -83,11 +84,9 @@ module _ (c : Chart) (rt : Right c) where
 
     up-arena : (source target : State) (path : List Segment) → Up c im source → Up c im (arena c source target path)
     unfolding arena common if_then_else_
-    up-arena source target path u = go (eqb source target && eqb source (common c source target path))
-      where
-        go : (b : Bool) → Up c im (if b then parent c source else common c source target path)
-        go true = up-parent source u
-        go false = up-first source u _
+    up-arena source target path u =
+        elim (two (eqb source target && eqb source (common c source target path)))
+        [ inl e ↦ rw e (up-parent source u) | inr e ↦ rw e (up-first source u _) ]
 
   t-transit : (a : State) (im₀ : Image) (t : Segment) → t < segments c
       → Triple (Bounded c) (transitCost c t) (Emptied c a im₀) (transit c t) (λ _. Emptied c a im₀)
@@ -124,24 +123,25 @@ module _ (c : Chart) (rt : Right c) where
       }
 
   -- G: all states left and entered, all transition actions
-  both-costs : (xs : List State)
-      → sumOver (λ s. 2 + entry c s .count + exit c s .count) xs ≡ sumOver (leavingCost c) xs + sumOver (enteringCost c) xs
-  unfolding leavingCost enteringCost
-  both-costs xs = sum-both _ (leavingCost c) (enteringCost c) xs (λ s. omega arith)
+  G-is : G c
+      ≡ sumOver (leavingCost c) (below (states c)) + sumOver (enteringCost c) (below (states c))
+      + sumOver (transitCost c) (below (segments c))
+  unfolding G leavingCost enteringCost
+  G-is =
+      ap (λ (n : ℕ). n + sumOver (transitCost c) (below (segments c)))
+      (sum-both _ (leavingCost c) (enteringCost c) (below (states c)) (λ s. omega arith))
 
   pub entering-within : sumOver (enteringCost c) (below (states c)) ≤ G c
-  unfolding G
-  entering-within = omega (arith, both-costs (below (states c)))
+  entering-within = omega (arith, G-is)
 
   within-G : (a : State) (path : List Segment) → a < states c → Path c path → Distinct path
       → sumOver (weigh c (leavingCost c) 9) (children c a)
       + (sumOver (transitCost c) path + sumOver (weigh c (enteringCost c) 9) (children c a)) ≤ G c
-  unfolding G
   within-G a path h v d =
       let left = weigh-children c tr (leavingCost c) 9 a h in
       let came = weigh-children c tr (enteringCost c) 9 a h in
       let passed = light (transitCost c) path (below (segments c)) d (λ t m. mem-below (segments c) t (v t m)) in
-      omega (arith, both-costs (below (states c)))
+      omega (arith, G-is)
 
   pub t-fire : (source target : State) (path : List Segment) → Path c path → (Bounded c → Distinct path)
       → Triple (Bounded c) (G c) (Going c source) (fire c source target path) (λ _. Good c)

@@ -10,9 +10,9 @@ use lib.ListN.{length, replicate, length-append, length-replicate}
 use borrow.Author.Tests.{eqb-true}
 use Rattle.rules.specs.Bytes.{Bytes, ascii, byte, field, bytesOf}
 use Rattle.rules.specs.Lists.{upFrom, range, below, every, all}
-use Rattle.rules.specs.Chart.{Chart, states, variables}
+use Rattle.rules.specs.Chart.{Chart, mostVariables, states, variables}
 use Rattle.rules.specs.Accept.{marked, zeroAt}
-use Rattle.rules.specs.Image.{notStarted, restZero, historySound, accepted, initialBytes, freshImage}
+use Rattle.rules.specs.Image.{Image, imageSize, notStarted, restZero, historySound, accepted, initialBytes, freshImage}
 use Rattle.rules.proofs.Laws.{and-both}
 use Rattle.rules.proofs.Members.{every-range, range-every, below-every}
 use Rattle.rules.proofs.Taken.{Tree}
@@ -25,15 +25,23 @@ zero-after [] (suc n) (suc i) h = zero-after [] n i (omega arith)
 zero-after (x ∷ b) n zero h = absurd (omega arith)
 zero-after (x ∷ b) n (suc i) h = zero-after b n i (omega arith)
 
-initial-length : (c : Chart) (n : ℕ) → length (initialBytes c n) ≡ 4 * n
+pub initial-length : (c : Chart) (n : ℕ) → length (initialBytes c n) ≡ 4 * n
 unfolding initialBytes bytesOf
 initial-length c zero = refl
 initial-length c (suc n) = rw (length-append, initial-length c n) (omega arith)
 
+-- the image with the first n initial values put; with all of them it is the fresh one
+unfoldable pub made : Chart → ℕ → Image
+made c n = ascii "IM" ++ replicate 72 0 ++ initialBytes c n ++ replicate (4 * (mostVariables - n)) 0
+
+pub made-size : (c : Chart) (n : ℕ) → n ≤ mostVariables → length (made c n) ≡ imageSize
+unfolding made ascii
+made-size c n h = simp (length-append, length-replicate, initial-length) (omega arith)
+
 module _ (c : Chart) (t : Tree c) where
   pub fresh-size : length (freshImage c) ≡ 202
-  unfolding freshImage ascii
-  fresh-size = simp (length-append, length-replicate, initial-length) (omega arith)
+  unfolding freshImage made
+  fresh-size = made-size c (variables c) (t .mostVariables)
 
   pub fresh-not-started : notStarted (freshImage c) ≡ true
   unfolding notStarted freshImage ascii every range upFrom zeroAt

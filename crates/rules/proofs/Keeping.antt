@@ -13,7 +13,7 @@ pub record Keeps {A : Type 0} (R : Now → Now → Type 0) (m : Doing A) : Type 
   pub at : (n : Now) (a : A) (n′ : Now) → m n ≡ went a n′ → R n n′
 
 -- what is now, with these units instead
-abbrev pub withUnits : Now → ℕ → Now
+abbrev withUnits : Now → ℕ → Now
 withUnits n u = record { image = n .image; units = u; room = n .room; trace = n .trace }
 
 -- what R needs: nothing done, two doings in a row, and the three doings that touch what is now
@@ -21,7 +21,8 @@ pub record Lawful (R : Now → Now → Type 0) : Type 0 where
   pub same : (n : Now) → R n n
   pub both : (n n₁ n′ : Now) → R n n₁ → R n₁ n′ → R n n′
   pub paid : (n : Now) (u : ℕ) → n .units ≡ suc u → R n (withUnits n u)
-  pub noted : (n : Now) (r i : ℕ) → n .room ≡ suc r → R n (record { image = n .image; units = n .units; room = r; trace = n .trace ++ (i ∷ []) })
+  pub noted : (n : Now) (r i : ℕ) → n .room ≡ suc r
+      → R n (record { image = n .image; units = n .units; room = r; trace = n .trace ++ (i ∷ []) })
   pub changed : (n : Now) (im : Image) → R n (record { image = im; units = n .units; room = n .room; trace = n .trace })
 
 -- what an outcome that went tells
@@ -35,7 +36,8 @@ there P {n = n} {n′ = n′} e p =
     subst P q p
 
 -- what follows went, so the first did
-pub both-went : {A B P : Type 0} (o : Outcome A) (f : A → Doing B) (b : B) (n′ : Now) → after o f ≡ went b n′ → ((a : A) (n : Now) → o ≡ went a n → f a n ≡ went b n′ → P) → P
+pub both-went : {A B P : Type 0} (o : Outcome A) (f : A → Doing B) (b : B) (n′ : Now) → after o f ≡ went b n′
+    → ((a : A) (n : Now) → o ≡ went a n → f a n ≡ went b n′ → P) → P
 both-went (refused r) f b n′ e k = absurd (never-went r b n′ e)
 both-went (went a n) f b n′ e k = k a n refl e
 

@@ -2,8 +2,8 @@
 -- for the parent; and what that costs. By the depth that is left below a state. Assumes nothing.
 use mathlib.Core.Path.{_≡_, refl, _∙_}
 use mathlib.Core.Logic.{_⊎_, inl, inr}
-use mathlib.Core.Bool.{Bool, false}
-use mathlib.Core.List.{List, [], _∷_, List·Memᴰ·head, List·Memᴰ·tail, List·Memᴰ·cases-cons, List·Memᴰ·not-nil}
+use mathlib.Core.Bool.{false}
+use mathlib.Core.List.{List, [], _∷_, List·Memᴰ·head, List·Memᴰ·tail, List·Memᴰ·not-nil}
 use Prim.Native.Nat.{ℕ, zero, suc, _+_, _<_}
 use native.Mathlib.Decide.{ℕ-discrete}
 use native.Mathlib.Omega.{arith}
@@ -14,27 +14,14 @@ use Rattle.rules.specs.Doing.{Done, stateLeft}
 use Rattle.rules.specs.Fire.{leaveEach, noteLeft, leave}
 use Rattle.rules.proofs.Members.{Mem}
 use Rattle.rules.proofs.Taken.{Child, Tree, Right, childrenDown-mem, mem-childrenDown, tree, exit-valid}
-use Rattle.rules.proofs.Trees.{Below, here, Deep, below-le, below-trans, child-below, child-more, sibling, deep-child, deep-end, low}
+use Rattle.rules.proofs.Trees.{child-of-parent, here, Deep, child-more, deep-child, deep-end, low}
 use Rattle.rules.proofs.Weights.{weigh, down-light}
 use Rattle.rules.proofs.Soundness.{Sound, off-same, off-other, deactivate-sound, record-sound, record-active}
 use Rattle.rules.proofs.Triple.{Triple, t-weak, t-post, t-more, t-from, t-if, t-then, t-done, t-pay, t-note, t-change, t-active, t-each}
 use Rattle.rules.proofs.Bounded.{Bounded}
 use Rattle.rules.proofs.Blocks.{Quiet, t-action}
-use Rattle.rules.proofs.Shape.{Fine, fine-off, fine-but, quiet-at, quiet-fine}
-
--- bits of states in M moved, no others, and each state that was fine is, but for p
-pub record Moved (c : Chart) (M : State → Type 0) (p : State) (im₀ im : Image) : Type 0 where
-  pub sound : Sound c im
-  pub frame : (x : State) → x < states c → (M x → ⊥) → isActive im x ≡ isActive im₀ x
-  pub fine : (x : State) → x < states c → (x ≡ p → ⊥) → Fine c (isActive im₀) x → Fine c (isActive im) x
-
--- those of k and of the states below it
-abbrev pub MovedAt : Chart → State → Image → Image → Type 0
-MovedAt c k im₀ im = Moved c (Below c k) (parent c k) im₀ im
-
--- those of the states below s
-abbrev pub MovedBelow : Chart → State → Image → Image → Type 0
-MovedBelow c s im₀ im = Moved c (λ x. Below c s x × (s < x)) s im₀ im
+use Rattle.rules.proofs.Shape.{fine-off, fine-but, quiet-at}
+use Rattle.rules.proofs.Moving.{MovedAt, MovedBelow, unmoved, moved-quiet, moved-child, turned}
 
 -- k was left
 pub record Left (c : Chart) (k : State) (im₀ im : Image) : Type 0 where
@@ -50,9 +37,6 @@ pub record Emptied (c : Chart) (s : State) (im₀ im : Image) : Type 0 where
 abbrev pub Leaves : Chart → State → ℕ → Done → Type 0
 Leaves c k b m = (im₀ : Image) → Sound c im₀ → Triple (Bounded c) b (λ im. im ≡ im₀) m (λ _. Left c k im₀)
 
-pub unmoved : {c : Chart} {M : State → Type 0} {p : State} {im : Image} → Sound c im → Moved c M p im im
-unmoved so = record { sound = so; frame = λ x h n. refl; fine = λ x h n f. f }
-
 -- what leaving a state takes, without its children
 unfoldable pub leavingCost : Chart → State → ℕ
 leavingCost c s = 1 + exit c s .count
@@ -61,38 +45,10 @@ module _ (c : Chart) (rt : Right c) where
   tr : Tree c
   tr = tree c rt
 
-  pub moved-child : {s k : State} {im₀ im₁ im : Image} → MovedBelow c s im₀ im₁ → Child c s k → MovedAt c k im₁ im
-      → MovedBelow c s im₀ im
-  moved-child a ch m =
-      record {
-        sound = m .sound;
-        frame = λ x h n.
-            m .frame x h (λ b. n (below-trans c tr (child-below c tr ch) b, omega (arith, below-le c tr b, child-more c tr ch)))
-            ∙ a .frame x h n;
-        fine = λ x h n f. m .fine x h (λ q. n (q ∙ ch .of)) (a .fine x h n f);
-      }
-
-  -- k is b now, and its siblings are as they were: what was b, or waits in the list, is b now, or waits in its tail
-  pub turned : {s k j : State} {xs : List State} {im₁ im : Image} {b : Bool} → Child c s k → Child c s j → MovedAt c k im₁ im
-      → isActive im k ≡ b → (isActive im₁ j ≡ b) ⊎ Mem j (k ∷ xs) → (isActive im j ≡ b) ⊎ Mem j xs
-  turned {k = k} {j = j} ck cj m on w =
-      elim (ℕ-discrete j k) [
-        | yes e ↦ inl (rw e on)
-        | no d ↦ elim w [
-          | inl e ↦ inl (m .frame j (cj .state) (sibling c tr ck cj d) ∙ e)
-          | inr i ↦ elim (List·Memᴰ·cases-cons i) [ inl e ↦ absurd (d e) | inr i ↦ inr i ]
-        ]
-      ]
-
   pub emptied-quiet : (s : State) (im₀ im₁ im : Image) → Emptied c s im₀ im₁ → Quiet c im₁ im → Emptied c s im₀ im
   emptied-quiet s im₀ im₁ im a q =
       record {
-        moved =
-            record {
-              sound = q .sound;
-              frame = λ x h n. quiet-at c tr im₁ im q x h ∙ a .moved .frame x h n;
-              fine = λ x h n f. quiet-fine c tr im₁ im q x h (a .moved .fine x h n f);
-            };
+        moved = moved-quiet c tr (a .moved) q;
         none = λ j ch. quiet-at c tr im₁ im q j (ch .state) ∙ a .none j ch;
       }
 
@@ -109,9 +65,9 @@ module _ (c : Chart) (rt : Right c) where
     leaving-left : {k : State} {xs : List State} {im₁ im : Image} → Leaving (k ∷ xs) im₁ → Left c k im₁ im → Leaving xs im
     leaving-left a l =
         record {
-          moved = moved-child (a .moved) (next a) (l .moved);
+          moved = moved-child c tr (a .moved) (next a) (l .moved);
           kids = λ j m. a .kids j (List·Memᴰ·tail m);
-          left = λ j ch. turned (next a) ch (l .moved) (l .gone) (a .left j ch);
+          left = λ j ch. turned c tr (next a) ch (l .moved) (l .gone) (a .left j ch);
         }
 
     leaving-end : (im : Image) → Leaving [] im → Emptied c s im₀ im
@@ -147,8 +103,7 @@ module _ (c : Chart) (rt : Right c) where
     t-noteLeft p =
         t-if (keepsHistory c (parent c k)) (λ e. t-change _ (λ im a. emptied-quiet k im₀ im _ a
         (record {
-          sound = record-sound c tr im _ _ (let u = tr .up k h p in omega arith) e
-              (record { above = p; state = h; of = refl }) (a .moved .sound);
+          sound = record-sound c tr im _ _ (let u = tr .up k h p in omega arith) e (child-of-parent p h) (a .moved .sound);
           same = record-active c tr im _ _;
         })))
         (λ e. t-done)
@@ -179,9 +134,7 @@ module _ (c : Chart) (rt : Right c) where
   pub t-leave : (d n : ℕ) → n + d ≡ 9 → (k : State) → 0 < k → k < states c → Deep c n k
       → Leaves c k (weigh c (leavingCost c) d k) (leave c d k)
   unfolding leave weigh leavingCost
-  t-leave zero n e k p h deep im₀ so =
-      let q : n ≡ 9 = omega arith in
-      absurd (deep-end c tr k h (rw q at deep))
+  t-leave zero n e k p h deep im₀ so = absurd (deep-end c tr n k (omega arith) h deep)
   t-leave (suc d) n e k p h deep im₀ so =
       t-more (λ x. omega arith)
       (t-then t-pay

@@ -15,6 +15,8 @@ pub mod Steady
 pub mod Members
 pub mod Sums
 pub mod Distinct
+pub mod Puts
+pub mod ItemBytes
 pub mod Taken
 pub mod Trees
 pub mod Weights
@@ -24,6 +26,7 @@ pub mod Soundness
 pub mod Triple
 pub mod Blocks
 pub mod Shape
+pub mod Moving
 pub mod Leaving
 pub mod Entering
 pub mod Firing

@@ -18,12 +18,12 @@ Refuses (went a n) = Unit {0}
 
 paid : (u : ℕ) (n : Now) → Refuses (payFrom u n)
 unfolding because
-paid zero n = (omega arith, omega arith)
+paid zero n = omega arith
 paid (suc u) n = tt
 
 noted : (r i : ℕ) (n : Now) → Refuses (noteIn r i n)
 unfolding because
-noted zero i n = (omega arith, omega arith)
+noted zero i n = omega arith
 noted (suc r) i n = tt
 
 joined : {A B : Type 0} (f : A → Doing B) → ((a : A) (n : Now) → Refuses (f a n))
@@ -36,7 +36,7 @@ unfolding give refuse because look change pay note _>>=_
 refuses =
     record {
       gives = λ a n. tt;
-      refuses = λ k low high n. (omega arith, omega arith);
+      refuses = λ k low high n. omega arith;
       looks = λ n. tt;
       changes = λ f n. tt;
       pays = λ n. paid (n .units) n;

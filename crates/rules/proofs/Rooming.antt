@@ -13,7 +13,7 @@ use Rattle.rules.proofs.Keeping.{Lawful, keeps-closed}
 abbrev pub Rooms : Now → Now → Type 0
 Rooms n n′ = length (n′ .trace) + n′ .room ≡ length (n .trace) + n .room
 
-pub rooms : Lawful Rooms
+rooms : Lawful Rooms
 rooms =
     record {
       same = λ n. refl;
@@ -23,5 +23,5 @@ rooms =
       changed = λ n im. refl;
     }
 
-pub step-rooms : (c : Chart) (e : ℕ) (n : Now) (a : Unit {0}) (n′ : Now) → step c e n ≡ went a n′ → length (n′ .trace) + n′ .room ≡ length (n .trace) + n .room
-step-rooms c e n a n′ w = step-has (keeps-closed rooms) c e .at n a n′ w
+pub step-rooms : (c : Chart) (e : ℕ) (n : Now) (a : Unit {0}) (n′ : Now) → step c e n ≡ went a n′ → Rooms n n′
+step-rooms c e = step-has (keeps-closed rooms) c e .at

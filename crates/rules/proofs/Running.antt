@@ -28,14 +28,14 @@ use Rattle.rules.proofs.Firing.{Going, Path, t-fire}
 
 -- a path that can be fired
 record Route (c : Chart) (path : List Segment) : Type 0 where
-  pub inside : Path c path
-  pub distinct : Bounded c → Distinct path
+  inside : Path c path
+  distinct : Bounded c → Distinct path
 
 -- a path to segment t: each of it weighs more than t
 record Way (c : Chart) (path : List Segment) (t : Segment) : Type 0 where
-  pub route : Route c path
-  pub real : t < segments c
-  pub heavier : Bounded c → (u : Segment) → Mem u path → W c t < W c u
+  route : Route c path
+  real : t < segments c
+  heavier : Bounded c → (u : Segment) → Mem u path → W c t < W c u
 
 -- what a search comes to
 abbrev Got : Chart → State → Found → Claim

@@ -22,7 +22,7 @@ pub fine-off : {c : Chart} {A : State → Bool} {s : State} → A s ≡ false �
 fine-off e h = record { idle = λ q. h; all = λ q. clash q e; one = λ q. clash q e }
 
 module _ {c : Chart} {A A′ : State → Bool} where
-  pub fine-same : {s : State} → A′ s ≡ A s → ((k : State) → Child c s k → A′ k ≡ A k) → Fine c A s → Fine c A′ s
+  fine-same : {s : State} → A′ s ≡ A s → ((k : State) → Child c s k → A′ k ≡ A k) → Fine c A s → Fine c A′ s
   fine-same e h f =
       record {
         idle = λ q k ch. h k ch ∙ f .idle (sym e ∙ q) k ch;

@@ -3,18 +3,18 @@
 use mathlib.Core.Path.{_≡_, refl, _∙_}
 use mathlib.Core.Logic.{_⊎_, inr}
 use mathlib.Core.Bool.{Bool, true, false}
-use mathlib.Core.List.{[], _∷_}
 use Prim.Native.Nat.{ℕ, zero, suc, _+_, _*_, _/_, _%_, _≤_, _<_}
 use native.Mathlib.Decide.{ℕ-discrete}
 use native.Mathlib.Omega.{arith}
 use lib.ListN.{length, set, length-set}
-use lib.Seq.{sets, getD-set-same, getD-set-other}
+use lib.Seq.{getD-set-same, getD-set-other}
 use lib.IntN.{ℤ}
-use Rattle.rules.specs.Bytes.{byte, field, put, bytesOf, unsigned, bit, bitOn, bitOff}
+use Rattle.rules.specs.Bytes.{byte, field, bit, bitOn, bitOff}
 use Rattle.rules.specs.Chart.{Chart, states, variables, keepsHistory}
 use Rattle.rules.specs.Accept.{marked}
 use Rattle.rules.specs.Image.{Image, isActive, recorded, activate, deactivate, recordChild, setVariable}
 use Rattle.rules.proofs.Taken.{Child, Tree}
+use Rattle.rules.proofs.Puts.{length-put, put-other}
 use Rattle.rules.proofs.Bits.{on-bit-same, on-bit-other, off-bit-same, off-bit-other}
 
 -- im′ is im but for the places from lo up to hi
@@ -29,19 +29,9 @@ set-apart im i v =
       rest = λ j h. getD-set-other im i j v 0 (λ q. h (omega arith));
     }
 
-sets-apart : (vs im : Image) (i : ℕ) → Apart i (i + length vs) im (sets im i vs)
-sets-apart [] im i = record { size = refl; rest = λ j h. refl }
-sets-apart (v ∷ vs) im i =
-    let first = set-apart im i v in
-    let others = sets-apart vs (set im i v) (suc i) in
-    record {
-      size = others .size ∙ first .size;
-      rest = λ j h. others .rest j (λ g. h (omega arith)) ∙ first .rest j (λ g. h (omega arith));
-    }
-
 variable-apart : (im : Image) (v : ℕ) (z : ℤ) → Apart (74 + 4 * v) (74 + 4 * v + 4) im (setVariable im v z)
-unfolding setVariable put bytesOf
-variable-apart im v z = sets-apart (bytesOf 4 (unsigned 4 z)) im (74 + 4 * v)
+unfolding setVariable
+variable-apart im v z = record { size = length-put 4 im (74 + 4 * v) _; rest = put-other 4 im (74 + 4 * v) _ }
 
 field-apart : {lo hi : ℕ} {im im′ : Image} → Apart lo hi im im′ → (w i : ℕ) → hi ≤ i → field w im′ i ≡ field w im i
 field-apart a zero i h = refl

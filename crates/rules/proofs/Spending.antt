@@ -11,8 +11,8 @@ use Rattle.rules.specs.Doing.{Now, went, Doing, give, refuse, _>>=_, _>>
 use Rattle.rules.specs.Block.{Stack, Sending, Sent, sentBy, perform}
 use Rattle.rules.specs.Search.{passes, search}
 use Rattle.rules.specs.Fire.{fire}
-use Rattle.rules.specs.Run.{run, send, step}
-use Rattle.rules.proofs.Closing.{Closed, _>>_ as then-has, if-has, sentBy-has, perform-has, passes-has, search-has, fire-has, run-has, send-has, step-has}
+use Rattle.rules.specs.Run.{send, step}
+use Rattle.rules.proofs.Closing.{Closed, _>>_ as then-has, if-has, sentBy-has, perform-has, passes-has, search-has, fire-has, send-has, step-has}
 use Rattle.rules.proofs.Keeping.{Keeps, Lawful, paid-keeps, refuse-keeps, keeps-closed}
 pub use Rattle.rules.proofs.Keeping.{both-went}
 
@@ -22,7 +22,7 @@ Fewer n n′ = n′ .units ≤ n .units
 abbrev pub Spends : {A : Type 0} → Doing A → Type 0
 Spends m = Keeps Fewer m
 
-pub fewer : Lawful Fewer
+fewer : Lawful Fewer
 fewer =
     record {
       same = λ n. omega arith;
@@ -61,36 +61,30 @@ module _ {A B : Type 0} where
 pub pay-strict : (n : Now) (a : Unit {0}) (n′ : Now) → pay n ≡ went a n′ → n′ .units < n .units
 pay-strict = paid-keeps (λ n n′. n′ .units < n .units) (λ n u e. omega arith) .at
 
-module _ {A : Type 0} where
-  -- what begins with a pay goes on with fewer units
-  pub pay-then-strict : {m : Doing A} → Spends m → (n : Now) (a : A) (n′ : Now) → (pay >> m) n ≡ went a n′ → n′ .units < n .units
-  unfolding _>>_
-  pay-then-strict {m} sm n a n′ e =
-      both-went (pay n) (λ _. m) a n′ e (λ x n₁ e₁ e₂. omega (arith, pay-strict n x n₁ e₁, sm .at n₁ a n′ e₂))
-
-  pub pay-bind-strict : {f : Unit {0} → Doing A} → ((x : Unit {0}) → Spends (f x)) → (n : Now) (a : A) (n′ : Now) → (pay >>= f) n ≡ went a n′ → n′ .units < n .units
-  unfolding _>>=_
-  pay-bind-strict {f} sf n a n′ e =
-      both-went (pay n) f a n′ e (λ x n₁ e₁ e₂. omega (arith, pay-strict n x n₁ e₁, sf x .at n₁ a n′ e₂))
+-- what begins with a pay goes on with fewer units
+pub pay-then-strict : {A : Type 0} {m : Doing A} → Spends m → (n : Now) (a : A) (n′ : Now) → (pay >> m) n ≡ went a n′
+    → n′ .units < n .units
+unfolding _>>_
+pay-then-strict {m = m} sm n a n′ e =
+    both-went (pay n) (λ _. m) a n′ e (λ x n₁ e₁ e₂. omega (arith, pay-strict n x n₁ e₁, sm .at n₁ a n′ e₂))
 
 -- the definitions of the rules
 
-pub sentBy-spends : (owner : State) {sending : Sending} → ((e : ℕ) (b : State) → Spends (sending e b)) → (e : ℕ) (b : State) → Spends (sentBy owner sending e b)
+pub sentBy-spends : (owner : State) {sending : Sending} → ((e : ℕ) (b : State) → Spends (sending e b))
+    → (e : ℕ) (b : State) → Spends (sentBy owner sending e b)
 sentBy-spends owner ss e b = sentBy-has spends ss owner e b
 
-pub perform-spends : {sent : Sent} → ((e : ℕ) (b : State) → Spends (sent e b)) → (st : Stack) (is : List Instruction) → Spends (perform sent st is)
+pub perform-spends : {sent : Sent} → ((e : ℕ) (b : State) → Spends (sent e b))
+    → (st : Stack) (is : List Instruction) → Spends (perform sent st is)
 perform-spends ss st is = perform-has spends ss st is
 
 module _ (c : Chart) where
   pub passes-spends : (e : ℕ) (t : Segment) → Spends (passes c e t)
   passes-spends e t = passes-has spends c e t
 
-  module _ {sending : Sending} (ss : (e : ℕ) (b : State) → Spends (sending e b)) (e : ℕ) where
-    pub search-spends : (source : State) (ts : List Segment) → Spends (search c sending e source ts)
-    search-spends source ts = search-has spends c ss e source ts
-
-    pub run-spends : (d : ℕ) (p : State) → Spends (run c sending e d p)
-    run-spends d p = run-has spends c ss e d p
+  pub search-spends : {sending : Sending} → ((e : ℕ) (b : State) → Spends (sending e b))
+      → (e : ℕ) (source : State) (ts : List Segment) → Spends (search c sending e source ts)
+  search-spends ss e source ts = search-has spends c ss e source ts
 
   pub fire-spends : (source target : State) (path : List Segment) → Spends (fire c source target path)
   fire-spends source target path = fire-has spends c source target path

@@ -35,7 +35,7 @@ joined f sf k (refused r) o′ (inl e) = inl e
 joined f sf k (refused r) o′ (inr p) = rw p (inr refl)
 joined f sf k (went a n) o′ p = rw p (sf a .at k n)
 
-pub steady : Closed (λ A m. Steady m)
+steady : Closed (λ A m. Steady m)
 unfolding give refuse look change pay note _>>=_
 steady =
     record {

@@ -16,6 +16,7 @@ use Rattle.rules.specs.Run.{run, send, start, step}
 use Rattle.rules.specs.Bound.{G, bound}
 use Rattle.rules.proofs.Laws.{clash, not-yes}
 use Rattle.rules.proofs.Members.{mem-below, every-range}
+use Rattle.rules.proofs.Sums.{sum-le}
 use Rattle.rules.proofs.Distinct.{mem-light}
 use Rattle.rules.proofs.Taken.{Tree, Right, tree}
 use Rattle.rules.proofs.Trees.{low}
@@ -23,33 +24,33 @@ use Rattle.rules.proofs.Weights.{weigh-all}
 use Rattle.rules.proofs.Soundness.{Sound}
 use Rattle.rules.proofs.Triple.{_⇒_, Triple, t-pre, t-post, t-more, t-from, t-test}
 use Rattle.rules.proofs.Bounded.{Bounded}
-use Rattle.rules.proofs.Shape.{Good}
+use Rattle.rules.proofs.Shape.{fine-off, Good}
 use Rattle.rules.proofs.Entering.{Idle, Came, enteringCost, t-enter}
 use Rattle.rules.proofs.Firing.{up-root, entering-within}
 use Rattle.rules.proofs.Running.{runningCost, t-started}
 use Rattle.rules.proofs.Accepting.{sound, started-good}
 
+-- no state is active where nothing is started
+none-active : (im : Image) → notStarted im ≡ true → (s : State) → s < 64 → isActive im s ≡ false
+unfolding notStarted zeroAt
+none-active im e s h =
+    let z : byte im (2 + s / 8) ≡ 0 = eqb-true _ _ (every-range (zeroAt im) 2 74 e (2 + s / 8) (omega arith) (omega arith)) in
+    rw (z, zero-div (2 ^ (s % 8)))
+
+pub good-started : (c : Chart) (im : Image) → Good c im → notStarted im ≡ false
+good-started c im g = not-yes (notStarted im) (λ e. clash (g .root) (none-active im e 0 (omega arith)))
+
 module _ (c : Chart) (rt : Right c) where
   tr : Tree c
   tr = tree c rt
 
-  -- what is not started can be entered at the root
-  none-active : (im : Image) → notStarted im ≡ true → (s : State) → s < 64 → isActive im s ≡ false
-  unfolding notStarted zeroAt
-  none-active im e s h =
-      let z : byte im (2 + s / 8) ≡ 0 = eqb-true _ _ (every-range (zeroAt im) 2 74 e (2 + s / 8) (omega arith) (omega arith)) in
-      rw (z, zero-div (2 ^ (s % 8)))
-
-  pub good-started : (im : Image) → Good c im → notStarted im ≡ false
-  good-started im g = not-yes (notStarted im) (λ e. clash (g .root) (none-active im e 0 (omega arith)))
-
+  -- so the root can be entered
   idle-root : (im : Image) → Sound c im → notStarted im ≡ true → Idle c 0 im
   idle-root im so e =
       record {
         sound = so;
         off = none 0 (tr .some);
-        fine = λ s h g.
-            record { idle = λ q k ch. none k (ch .state); all = λ q. clash q (none s h); one = λ q. clash q (none s h) };
+        fine = λ s h g. fine-off (none s h) (λ k ch. none k (ch .state));
       }
     where
       none : (s : State) → s < states c → isActive im s ≡ false
@@ -69,7 +70,7 @@ module _ (c : Chart) (rt : Right c) where
   -- each state's part of the bound, and so G
   within-bound : sumOver (runningCost c) (below (states c)) ≤ bound c
   unfolding bound runningCost
-  within-bound = omega arith
+  within-bound = sum-le (runningCost c) _ (below (states c)) (λ s m. omega arith)
 
   G-within : G c ≤ bound c
   unfolding runningCost
@@ -90,5 +91,5 @@ module _ (c : Chart) (rt : Right c) where
   pub t-step : (e : ℕ) → Triple (Bounded c) (bound c) (λ im. accepted im c ≡ true) (step c e) (λ _. Good c)
   unfolding step
   t-step e =
-      t-test notStarted (t-pre (λ im (z, a). idle-root im (sound c rt im a) z) t-start)
-      (t-pre (λ im (z, a). started-good c rt im a z) (t-run-root e))
+      t-test notStarted (t-pre (λ im (z, a). idle-root im (sound c im a) z) t-start)
+      (t-pre (λ im (z, a). started-good c im a z) (t-run-root e))

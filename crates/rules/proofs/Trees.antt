@@ -15,6 +15,10 @@ pub data Below (c : Chart) (k : State) : State → Type 0 where
   here : Below c k k
   under : {x : State} → 0 < x → x < states c → Below c k (parent c x) → Below c k x
 
+-- a state is a child of its parent
+pub child-of-parent : {c : Chart} {k : State} → 0 < k → k < states c → Child c (parent c k) k
+child-of-parent p h = record { above = p; state = h; of = refl }
+
 -- s is at least n deep
 abbrev pub Deep : Chart → ℕ → State → Type 0
 Deep c zero s = Unit {0}
@@ -35,10 +39,6 @@ module _ (c : Chart) (tr : Tree c) where
   pub child-more : {s k : State} → Child c s k → s < k
   child-more {s} {k} ch = let u = tr .up k (ch .state) (ch .above) in omega arith
 
-  -- a state is not below its child
-  pub not-below : {s k : State} → Child c s k → Below c k s → ⊥
-  not-below ch b = let l = below-le b in let u = child-more ch in omega arith
-
   -- of two children neither is below the other
   pub sibling : {s j k : State} → Child c s j → Child c s k → (k ≡ j → ⊥) → Below c j k → ⊥
   sibling a b d here = d refl
@@ -54,6 +54,7 @@ module _ (c : Chart) (tr : Tree c) where
       or-no (eqb 0 k) _ (ne-eqb 0 k (λ q. omega arith))
       (rw (if-false (eqb k 0) _ _ (ne-eqb k 0 (λ q. omega arith)), ch .of) d)
 
-  pub deep-end : (s : State) → s < states c → Deep c 9 s → ⊥
+  -- no state is 9 deep
+  pub deep-end : (n : ℕ) (s : State) → n ≡ 9 → s < states c → Deep c n s → ⊥
   unfolding over
-  deep-end s h d = clash (tr .depth s h) d
+  deep-end n s e h d = clash (tr .depth s h) (rw e at d)

@@ -2,7 +2,8 @@
 -- are as many as fit. Assumes nothing.
 use mathlib.Core.Path.{sym, _∙_}
 use native.Mathlib.Omega.{arith}
-use Rattle.afraulenc.proofs.Testing.{part-ends, length-lent, fresh-unchecked, fresh-missing, fresh-there, taken-variables}
+use Rattle.rules.proofs.Taken.{right, tree}
+use Rattle.afraulenc.proofs.Testing.{part-ends, length-lent, fresh-unchecked, fresh-missing, fresh-there}
 use borrow.Author.Needs.{needs}
 use Rattle.afraulenc.proofs.fresh.Statement.{statement}
 use Rattle.afraulenc.proofs.fresh.Tie as tie
@@ -44,7 +45,7 @@ part-make-end : tie.Need-part-make-end
 part-make-end c = part-ends (c .before .before .before .before .before .before .before .before .before .args .board .now) (c .before .before .before .before .before .before .before .before .before .args .lift) (c .before .before .before .before .of-lift .ensures) (c .before .before .part .given .1)
 
 make-requires : tie.Need-make-requires
-make-requires c κs = (c .before .read .ensures, (length-lent (c .before .before .before .before .before .before .before .before .before .before .args .board .now) (c .before .before .before .before .before .before .before .before .before .before .args .lift) (c .before .before .before .before .before .of-lift .ensures) (c .before .before .before .part .given .1), rw (c .before .read .ensures) (taken-variables (c .before .before .before .before .before .before .before .before .before .before .args .chart .now) (sym (c .before .before .before .before .before .before .if1 .left) ∙ c .before .before .before .before .before .before .before .refusal .ensures))))
+make-requires c κs = (c .before .read .ensures, (length-lent (c .before .before .before .before .before .before .before .before .before .before .args .board .now) (c .before .before .before .before .before .before .before .before .before .before .args .lift) (c .before .before .before .before .before .of-lift .ensures) (c .before .before .before .part .given .1), rw (c .before .read .ensures) (tree _ (right (c .before .before .before .before .before .before .before .before .before .before .args .chart .now) (sym (c .before .before .before .before .before .before .before .refusal .ensures) ∙ c .before .before .before .before .before .before .if1 .left)) .mostVariables)))
 
 same-length : tie.Need-same-length
 same-length c = search needs

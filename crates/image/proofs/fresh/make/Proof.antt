@@ -4,7 +4,8 @@ use mathlib.Core.Path.{_≡_, sym, _∙_}
 use Prim.Native.Nat.{_-_, _≤_}
 use native.Mathlib.Omega.{arith}
 use borrow.Author.Needs.{needs}
-use Rattle.image.proofs.Making.{made, made-none, made-more, made-all, length-made}
+use Rattle.rules.proofs.Freshness.{made, made-size}
+use Rattle.image.proofs.Making.{made-none, made-more, made-all}
 use Rattle.image.proofs.fresh.make.Statement.{statement}
 use Rattle.image.proofs.fresh.make.Tie as tie
 
@@ -40,7 +41,7 @@ loop-again c =
     (omega arith, made-more (c .before .before .before .before .before .before .before .before .before .before .before .before .before .before .before .before .before .args .chart .now) (c .before .before .before .before .before .before .loop .v) (c .before .before .before .before .before .before .before .before .before .before .before .before .before .before .before .before .before .pre .0) (c .before .before .before .before .before .before .loop .inv .1) (omega arith) (c .before .before .before .initial-value .ensures) (c .before .before .set-number .ensures))
 
 same-length : tie.Need-same-length Inv-loop μ-loop
-same-length c = rw (c .before .loop .inv .1) (length-made (c .before .before .before .before .before .before .before .before .before .before .before .before .args .chart .now) (c .before .loop .v) (omega arith) ∙ sym (c .before .before .before .before .before .before .before .before .before .before .before .before .pre .1 .0))
+same-length c = rw (c .before .loop .inv .1) (made-size (c .before .before .before .before .before .before .before .before .before .before .before .before .args .chart .now) (c .before .loop .v) (omega arith) ∙ sym (c .before .before .before .before .before .before .before .before .before .before .before .before .pre .1 .0))
 
 returns : tie.Need-returns Inv-loop μ-loop
 returns c = made-all (c .before .before .before .before .before .before .before .before .before .before .before .before .args .chart .now) (c .before .loop .v) (c .before .before .before .before .before .before .before .before .before .before .before .before .pre .0) (c .before .loop .inv .1) (c .before .loop .inv .0) (c .loop-test .left)
