@@ -84,7 +84,7 @@ module _ (c : Chart) (P : Answer → Type 0)
   unfolding boundCall
   bound-ends = bound-by (chartRefusal c else boundRefusal c) refl
 
--- how a step ends that passed its tests: in demand 3's shape if it went, and as its bound has it
+-- how a step ends that passed its tests: in demand 3's shape if it went, and within the bound where the chart has one
 pub ending : (c : Chart) (board : Board) (trace : Bytes) (k e allowance : ℕ) → Lift c k board → (o : Outcome (Unit {0}))
     → step c e (begin (part board k) trace allowance) ≡ o → Ended (Bounded c) (bound c) allowance (λ (_ : Unit {0}). Good c) o
 unfolding begin

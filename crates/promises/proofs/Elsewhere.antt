@@ -20,17 +20,17 @@ use Rattle.promises.proofs.Writing.{Wrote, nothing, image, call-writes}
 
 module _ (x : Call) (board : Board) where
   wrote-length : (goes : Type 0) (board′ : Board) → Wrote x board goes board′ → length board′ ≡ length board
-  wrote-length goes board′ nothing = refl
+  wrote-length goes board′ (nothing none) = refl
   wrote-length goes board′ (image g k im w) = withPart-length board im k (w .has) (w .size)
 
   wrote-byte : (goes : Type 0) (board′ : Board) → Wrote x board goes board′ → (i : ℕ) → ((k : ℕ) → IsFor k x → Outside k i)
       → byte board′ i ≡ byte board i
-  wrote-byte goes board′ nothing i out = refl
+  wrote-byte goes board′ (nothing none) i out = refl
   wrote-byte goes board′ (image g k im w) i out = byte-other board im k (w .has) (w .size) i (out k (w .for))
 
   wrote-part : (goes : Type 0) (board′ : Board) → Wrote x board goes board′ → (j : ℕ) → (goes → IsFor j x → ⊥)
       → part board′ j ≡ part board j
-  wrote-part goes board′ nothing j apart = refl
+  wrote-part goes board′ (nothing none) j apart = refl
   wrote-part goes board′ (image g k im w) j apart = part-other board im k (w .has) (w .size) j (λ e. apart g (rw e (w .for)))
 
   pub same-length : length (afterCall x board) ≡ length board

@@ -1,4 +1,4 @@
--- The promises are of something: on a board of two lifts whose bytes are all 9, after two calls that are refused, lift 1 is made
+-- The promises are not empty: on a board of two lifts whose bytes are all 9, after two calls that are refused, lift 1 is made
 -- fresh for chart A, started, refused and stepped again, also with a damaged chart; so it has the shape, by the theorem. Assumes
 -- nothing.
 use mathlib.Core.Path.{_≡_, refl}
@@ -72,4 +72,4 @@ unfolding opened before board later old lent
 started = refl
 
 pub shaped : WellShaped chartA (part (afterCalls (fresh chartA 1 ∷ later) board) 1)
-shaped = stays-shaped chartA 1 later board made kept started
+shaped = stays-shaped (fresh chartA 1) later board 1 refl made kept started

@@ -43,5 +43,5 @@ pub refused-unchanged : (x : Call) (board : Board) → (Goes x board → ⊥) �
 refused-unchanged x board stops = unwritten _ _ (call-writes x board) stops
   where
     unwritten : (goes : Type 0) (board′ : Board) → Wrote x board goes board′ → (goes → ⊥) → board′ ≡ board
-    unwritten goes board′ nothing d = refl
+    unwritten goes board′ (nothing none) d = refl
     unwritten goes board′ (image g k im w) d = absurd (d g)

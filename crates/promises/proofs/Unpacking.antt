@@ -9,17 +9,14 @@ use Rattle.rules.specs.Bytes.{Bytes}
 use Rattle.rules.specs.Chart.{Chart}
 use Rattle.rules.specs.Doing.{because, Now, went, mostUnits}
 use Rattle.rules.specs.Run.{step}
-use Rattle.rules.specs.Calls.{Board, Answer, part, numberOnly, freshCall, boundTested, boundCall, begin, stepAnswer, stepCall, packed}
+use Rattle.rules.specs.Calls.{Board, part, numberOnly, freshCall, boundTested, boundCall, begin, stepAnswer, stepCall, packed}
 use Rattle.rules.specs.Bound.{bound, boundRefusal}
 use Rattle.rules.proofs.Laws.{unless-zero}
 use Rattle.rules.proofs.Refusing.{step-refuses}
 use Rattle.rules.proofs.Rooming.{step-rooms}
+use Rattle.promises.specs.Many.{Unpacked}
 use Rattle.promises.proofs.Calling.{fresh-ends, step-ends, bound-ends}
 use Rattle.promises.proofs.Numbers.{tests-most, bound-tests-most}
-
--- what `afraulenc_unpack` takes out
-abbrev pub Unpacked : Answer → Type 0
-Unpacked a = (packed a % 256 ≡ a .refusal .number) × (packed a / 256 % 512 ≡ a .items) × (packed a / 131072 ≡ a .units)
 
 by-parts : (number items units : ℕ) → number < 256 → items < 512
     → ((number + 256 * (items + 0) + 131072 * units) % 256 ≡ number)

@@ -3,13 +3,13 @@ use mathlib.Core.Path.{_≡_}
 use mathlib.Core.Logic.{_⊎_}
 use mathlib.Core.Bool.{true, false}
 use mathlib.Core.List.{List, [], _∷_}
-use Prim.Native.Nat.{ℕ, _+_, _*_, _≤_, _<_}
+use Prim.Native.Nat.{ℕ, _+_, _*_, _/_, _%_, _≤_, _<_}
 use lib.ListN.{length}
 use Rattle.rules.specs.Bytes.{Bytes}
 use Rattle.rules.specs.Lists.{keep}
 use Rattle.rules.specs.Chart.{State, Chart, states, kind, children}
 use Rattle.rules.specs.Image.{Image, imageSize, isActive}
-use Rattle.rules.specs.Calls.{Board, Answer, freshCall, boundCall, stepCall}
+use Rattle.rules.specs.Calls.{Board, Answer, freshCall, boundCall, stepCall, packed}
 
 -- a call on a board: any chart, lift, event and allowance, any trace bytes lent
 pub data Call : Type 0 where
@@ -23,7 +23,7 @@ answer (fresh c k) board = freshCall c board k
 answer (step c trace k e allowance) board = stepCall c board trace k e allowance
 answer (bound c) board = boundCall c
 
--- it is not refused
+-- it goes: it is not refused
 abbrev pub Goes : Call → Board → Type 0
 Goes x board = answer x board .refusal .number ≡ 0
 
@@ -54,20 +54,20 @@ IsFresh k (fresh c j) = j ≡ k
 IsFresh k (step c trace j e allowance) = ⊥
 IsFresh k (bound c) = ⊥
 
--- P holds of each of the calls that is not refused, on the board as it is then
+-- P holds of each of the calls that goes, on the board as it is then
 abbrev pub EachThatGoes : (Call → Type 0) → List Call → Board → Type 0
 EachThatGoes P [] board = Unit {0}
 EachThatGoes P (x ∷ xs) board = (Goes x board → P x) × EachThatGoes P xs (afterCall x board)
 
--- lift k is kept on chart c: those for it have that chart
+-- lift k is kept on chart c: each call for it that goes has that chart
 abbrev pub KeptOn : Chart → ℕ → List Call → Board → Type 0
 KeptOn c k = EachThatGoes (λ x. IsFor k x → chartOf x ≡ c)
 
--- lift k is not made fresh
+-- no call that goes makes lift k fresh
 abbrev pub NotMadeFresh : ℕ → List Call → Board → Type 0
 NotMadeFresh k = EachThatGoes (λ x. IsFresh k x → ⊥)
 
--- none is for lift k
+-- no call that goes is for lift k
 abbrev pub LeftAlone : ℕ → List Call → Board → Type 0
 LeftAlone k = EachThatGoes (λ x. IsFor k x → ⊥)
 
@@ -89,3 +89,7 @@ pub record WellShaped (c : Chart) (im : Image) : Type 0 where
 -- byte i of a board stands outside lift k's part
 abbrev pub Outside : ℕ → ℕ → Type 0
 Outside k i = (i < imageSize * k) ⊎ (imageSize * k + imageSize ≤ i)
+
+-- what the header's `afraulenc_unpack` takes out of a step's answer
+abbrev pub Unpacked : Answer → Type 0
+Unpacked a = (packed a % 256 ≡ a .refusal .number) × (packed a / 256 % 512 ≡ a .items) × (packed a / 131072 ≡ a .units)

@@ -1,5 +1,6 @@
--- What a chart with a bound gives: no instruction sends, and a segment weighs what it and the segments after it weigh. For no
--- junction leads back to itself, so a way passes at most as many junctions as there are. Assumes nothing.
+-- What a chart with a bound gives: no instruction sends, and a segment weighs at least its own unit and instructions and what the
+-- segments after it weigh. For no junction leads back to itself, so a way passes at most as many junctions as there are. Assumes
+-- nothing.
 use mathlib.Core.Path.{_≡_, refl, sym, ap}
 use mathlib.Core.Logic.{inl, inr}
 use mathlib.Core.Bool.{true, false, not}

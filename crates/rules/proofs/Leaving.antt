@@ -1,5 +1,5 @@
--- Leaving: a state that is left is off with all below it, no other bit moves but theirs, and each state that was fine is, but
--- for the parent; and what that costs. By the depth that is left below a state. Assumes nothing.
+-- Leaving: a state that is left is off, no bit moves but its own and those below it, and each state that was fine is, but for
+-- the parent; and what that costs. By the depth that is left below a state. Assumes nothing.
 use mathlib.Core.Path.{_≡_, refl, _∙_}
 use mathlib.Core.Logic.{_⊎_, inl, inr}
 use mathlib.Core.Bool.{false}

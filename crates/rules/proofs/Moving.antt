@@ -16,7 +16,7 @@ use Rattle.rules.proofs.Soundness.{Sound}
 use Rattle.rules.proofs.Blocks.{Quiet}
 use Rattle.rules.proofs.Shape.{Fine, quiet-at, quiet-fine}
 
--- bits of states in M moved, no others, and each state that was fine is, but for p
+-- bits of states in M may have moved, no others, and each state that was fine is, but for p
 pub record Moved (c : Chart) (M : State → Type 0) (p : State) (im₀ im : Image) : Type 0 where
   pub sound : Sound c im
   pub frame : (x : State) → x < states c → (M x → ⊥) → isActive im x ≡ isActive im₀ x

@@ -46,7 +46,7 @@ module _ {A B : Type 0} {b : ℕ} {P : Claim} {Q : A → Claim} where
           at = λ n p. ended-weak b b′ (n .units) (n .units) (λ x. omega (arith, l x)) g (m n) (t .at n (f (n .image) p));
         }
 
-    -- less is asked before, or more is had after
+    -- more is asked before, or less is had after
     pub t-weak : {P′ : Claim} {Q′ : A → Claim} → P′ ⇒ P → ((a : A) → Q a ⇒ Q′ a) → Triple B b P m Q → Triple B b P′ m Q′
     t-weak f g t = weaker (λ x. omega arith) f g t
 
