@@ -1,46 +1,52 @@
-//! The charts that are measured, drafted by code.
+//! The charts that are measured one by one, drafted by code.
 use crate::draft::*;
+use crate::full;
 use Source::{Inner, Outer};
 use Target::State;
 
 /// A chart and the events that a lift of it gets, again and again.
 pub struct Case {
-    pub name: &'static str,
     pub chart: Vec<u8>,
     pub events: Vec<u32>,
     /// Whether the lift is made fresh before the first of the events.
     pub anew: bool,
 }
 
+impl Case {
+    pub fn new(chart: Vec<u8>, events: Vec<u32>) -> Case {
+        Case { chart, events, anew: false }
+    }
+}
+
+/// Those on which an event is measured.
+pub fn measured() -> [(&'static str, Case); 4] {
+    [("two leaves", two_leaves()), ("chart A", chart_a()), ("the middle chart", middle()), ("the largest chart", full::largest())]
+}
+
 pub fn two_leaves() -> Case {
-    Case { name: "two leaves", chart: there_and_back(), events: vec![1, 2], anew: false }
+    Case::new(there_and_back().bytes(), vec![1, 2])
 }
 
 /// The paper's own session of chart A: after it nothing moves any more, so it begins anew.
-pub fn chart_a() -> Case {
-    Case { name: "chart A", chart: a(), events: vec![1, 1, 2], anew: true }
+fn chart_a() -> Case {
+    Case { chart: a(), events: vec![1, 1, 2], anew: true }
 }
 
 pub fn middle() -> Case {
     // an order without a pattern, so that many states and segments have their turn
-    let events = (1..=96u32).map(|n| 1 + n * n * n * 7 % 997 % 6).collect();
-    Case { name: "a middle chart", chart: three_side_by_side(), events, anew: false }
+    Case::new(three_side_by_side(), (1..=96u32).map(|n| 1 + n * n * n * 7 % 997 % 6).collect())
 }
 
-pub fn largest() -> Case {
-    Case { name: "the largest chart", chart: full(), events: (1..=32).collect(), anew: false }
-}
-
-pub fn deepest(name: &'static str, sends: Sends) -> Case {
-    Case { name, chart: nine_levels(sends), events: vec![1], anew: false }
+pub fn deepest(sends: Sends) -> Case {
+    Case::new(nine_levels(sends), vec![1])
 }
 
 /// An event there and one back, as in peers/toggle.scxml.
-fn there_and_back() -> Vec<u8> {
+pub fn there_and_back() -> Draft {
     let mut draft = Draft::new(2, 0);
     draft.state(0, ONE_OF, 1).state(0, LEAF, 0).state(0, LEAF, 0);
     draft.segment(Outer(1), State(2), 1).segment(Outer(2), State(1), 2);
-    draft.bytes()
+    draft
 }
 
 fn a() -> Vec<u8> {
@@ -52,12 +58,12 @@ fn a() -> Vec<u8> {
 }
 
 /// v becomes (5v + k) modulo 1009, which stays within 32 bits.
-fn tick(v: u8, k: u8) -> [Instruction; 8] {
+pub fn tick(v: u8, k: u8) -> [Instruction; 8] {
     [load(v), push(5), MULTIPLY, push(k as i16), ADD, push(1009), REMAINDER, store(v)]
 }
 
 /// Whether v is odd.
-fn odd(v: u8) -> [Instruction; 3] {
+pub fn odd(v: u8) -> [Instruction; 3] {
     [load(v), push(2), REMAINDER]
 }
 
@@ -97,73 +103,6 @@ fn three_side_by_side() -> Vec<u8> {
         draft.during(s as usize, ticks).entry(s as usize, raises).exit(s as usize, raises);
     }
     draft.bytes()
-}
-
-/// Every table full: seven regions of eight leaves side by side, each with nine junctions.
-fn full() -> Vec<u8> {
-    let mut draft = Draft::new(32, 32);
-    draft.state(0, ALL_OF, 0);
-    for r in 1..8 {
-        draft.state(0, ONE_OF, 8 * r).keep_history(r as usize);
-    }
-    for leaf in 8..64 {
-        draft.state(leaf / 8, LEAF, 0);
-    }
-    for j in 0..64 {
-        draft.junction((1 + j / 9) % 8);
-    }
-    for v in 0..32 {
-        draft.variable(v);
-    }
-    let asks: Vec<Block> = (0..64).map(|j| draft.block(&odd(j % 32))).collect();
-    let counts: Vec<Block> = (0..64).map(|j| draft.block(&[load(j % 32), push(1), ADD, store(j % 32)])).collect();
-    let sends: Vec<Block> = (0..3).map(|n| draft.block(&[send(32, 2 * n + 2)])).collect();
-
-    let mut t = 0;
-    for leaf in 8..64u8 {
-        let (r, k) = (leaf / 8, leaf % 8);
-        draft.segment(Outer(leaf), State(8 * r + (k + 1) % 8), 1 + leaf % 32).transition_action(t, counts[leaf as usize]);
-        // regions 1, 3 and 5 send to 2, 4 and 6, which send no further
-        let sending = k % 4 == 0 && r % 2 == 1 && r < 7;
-        let action = if sending { sends[r as usize / 2] } else { counts[leaf as usize] };
-        draft.segment(Outer(leaf), Target::Junction(9 * (r - 1) + k % 4), 0).condition_action(t + 1, action);
-        if k % 2 == 1 {
-            draft.condition(t + 1, asks[leaf as usize]);
-        }
-        t += 2;
-    }
-    for r in 1..8u8 {
-        // a region onto itself: all seven are left and entered
-        draft.segment(Outer(r), State(r), 4 * r).transition_action(t, counts[r as usize]);
-        draft.segment(Inner(r), State(8 * r + 5), 3 * r).condition(t + 1, asks[r as usize]);
-        t += 2;
-    }
-    draft.segment(Inner(8), State(9), 31).segment(Inner(16), State(17), 31);
-    t += 2;
-    // four junctions of a region lead on to the five others, and these to its leaves; the last junction is nobody's
-    for j in 0..64u8 {
-        let (r, n) = (1 + j / 9, j % 9);
-        let (if_odd, otherwise) = match (r, n) {
-            (8, _) => (State(8), State(16)),
-            (_, 0..=3) => (Target::Junction(j + 4), Target::Junction(j + 5)),
-            _ => (State(8 * r + 2 * n % 8), State(8 * r + (2 * n + 3) % 8)),
-        };
-        draft.segment(Source::Junction(j), if_odd, 0).condition(t, asks[j as usize]).transition_action(t, counts[j as usize]);
-        draft.segment(Source::Junction(j), otherwise, 0).condition_action(t + 1, counts[j as usize]);
-        t += 2;
-    }
-    for s in 1..64 {
-        let ticks = draft.block(&tick(s % 32, s));
-        draft.during(s as usize, ticks);
-    }
-    // what is left of the 1,024 instructions
-    let raises: Vec<Block> = (0..69).map(|n| draft.block(&[raise(1 + n % 32)])).collect();
-    for s in 1..64 {
-        draft.entry(s, raises[s]).exit(s, raises[s + 5]);
-    }
-    let bytes = draft.bytes();
-    assert_eq!((t, bytes.len()), (256, 12_236));
-    bytes
 }
 
 /// Where the sends of the deepest step stand.

@@ -7,33 +7,6 @@
 #include <string.h>
 #include "afraulenc.h"
 
-static const char *const why[] = {
-    "not refused",
-    "the chart is shorter than its header",
-    "the chart has not the mark of one",
-    "the chart counts more than there can be, or no state or event",
-    "the chart is shorter or longer than its tables",
-    "the chart has a wrong mark, or a byte that should be zero",
-    "the chart's tree of states is wrong",
-    "the chart has a segment from or to nowhere",
-    "the chart has a block of instructions that it may not have",
-    "the chart has an instruction that there is not",
-    "the chart has a block that leaves its stack wrong",
-    "the chart stores, raises or sends where that is barred",
-    "there is no such lift on this board",
-    "the lift's image is not one of this chart",
-    "the chart has no such event",
-    "the allowance is over 1,000,000",
-    "the allowance is used up",
-    "a value is outside 32 bits, or a divisor is 0",
-    "eight sends are open already",
-    "a path has more than 128 segments",
-    "the trace has no room for another item",
-    "there is no bound: the chart sends",
-    "there is no bound: segments lead from a junction back to it",
-    "the bound is over 1,000,000",
-};
-
 static uint8_t chart[AFRAULENC_CHART + 1]; /* one byte more than the largest: a longer file is refused by its length */
 static uint8_t board[AFRAULENC_BOARD];
 static uint8_t trace[AFRAULENC_TRACE];
@@ -62,7 +35,7 @@ static void step_and_print(size_t length, uint32_t lift, uint32_t event, uint32_
     struct afraulenc_answer told = step_lift(length, lift, event, allowance);
     printf("lift %u, event %u: ", (unsigned)lift, (unsigned)event);
     if (told.refusal != 0) {
-        printf("refused, %u: %s\n", told.refusal, why[told.refusal]);
+        printf("refused, %u: %s\n", told.refusal, afraulenc_why(told.refusal));
         return;
     }
     if (!print_rings(told.items))
@@ -87,7 +60,7 @@ static int start_all(size_t length)
     for (uint32_t lift = 0; lift < AFRAULENC_LIFTS; lift++) {
         unsigned refusal = start(length, lift);
         if (refusal != 0) {
-            printf("lift %u is not started: %u: %s\n", (unsigned)lift, refusal, why[refusal]);
+            printf("lift %u is not started: %u: %s\n", (unsigned)lift, refusal, afraulenc_why(refusal));
             return 0;
         }
     }
@@ -112,7 +85,7 @@ static uint32_t usual_allowance(size_t length)
 {
     struct afraulenc_bound told = afraulenc_unpack_bound(bound(chart, length));
     if (told.refusal != 0) {
-        printf("%s\n", why[told.refusal]);
+        printf("%s\n", afraulenc_why(told.refusal));
         return AFRAULENC_UNITS;
     }
     printf("the chart's bound is %u units\n", told.units);

@@ -78,6 +78,38 @@ static inline struct afraulenc_bound afraulenc_unpack_bound(uint64_t answer)
     return told;
 }
 
+/* What a refusal means, in words for a person. */
+static inline const char *afraulenc_why(unsigned refusal)
+{
+    static const char *const why[] = {
+        "not refused",
+        "the chart is shorter than its header",
+        "the chart has not the mark of one",
+        "the chart counts more than there can be, or no state or event",
+        "the chart is shorter or longer than its tables",
+        "the chart has a wrong mark, or a byte that should be zero",
+        "the chart's tree of states is wrong",
+        "the chart has a segment from or to nowhere",
+        "the chart has a block of instructions that it may not have",
+        "the chart has an instruction that there is not",
+        "the chart has a block that leaves its stack wrong",
+        "the chart stores, raises or sends where that is barred",
+        "there is no such lift on this board",
+        "the lift's image is not one of this chart",
+        "the chart has no such event",
+        "the allowance is over 1,000,000",
+        "the allowance is used up",
+        "a value is outside 32 bits, or a divisor is 0",
+        "eight sends are open already",
+        "a path has more than 128 segments",
+        "the trace has no room for another item",
+        "there is no bound: the chart sends",
+        "there is no bound: segments lead from a junction back to it",
+        "the bound is over 1,000,000",
+    };
+    return refusal < sizeof why / sizeof why[0] ? why[refusal] : "there is no such refusal";
+}
+
 /* What a trace item tells of: the number is a state's, a segment's or an output's. */
 enum afraulenc_kind {
     AFRAULENC_ENTERED = 1,    /* a state, before its entry action */

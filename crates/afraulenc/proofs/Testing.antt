@@ -30,7 +30,7 @@ use Rattle.chart.specs.Places.{headerOf}
 use Rattle.afraulenc.specs.Parts.{steppedOn, partTests, partTested, partStepped}
 
 -- a range as the code tests it
-in-range : (lo hi n : ℕ) (a b : Bool) → ltb n lo ≡ a → ltb hi n ≡ b → within lo hi n ≡ not (a || b)
+pub in-range : (lo hi n : ℕ) (a b : Bool) → ltb n lo ≡ a → ltb hi n ≡ b → within lo hi n ≡ not (a || b)
 in-range lo hi n true b p q = let h = ltb-true n lo p in rw (lt-leb lo n h)
 in-range lo hi n false true p q = let h = ltb-false n lo p in let k = ltb-true hi n q in rw (le-leb lo n h, lt-leb n hi k)
 in-range lo hi n false false p q = let h = ltb-false n lo p in let k = ltb-false hi n q in rw (le-leb lo n h, le-leb n hi k)

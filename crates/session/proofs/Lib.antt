@@ -1,0 +1,4 @@
+mod Texts
+mod Numbered
+mod Answers
+mod Order

@@ -1,0 +1,45 @@
+-- The chart's line ends within its bytes. Assumes nothing.
+use mathlib.Core.Path.{sym}
+use Prim.Native.Nat.{ℕ}
+use native.Mathlib.Omega.{arith}
+use lib.ListN.{length-replicate}
+use lib.Seq.{length-take-le}
+use borrow.Author.Needs.{needs}
+use Rattle.session.proofs.Numbered.{line-within}
+use Rattle.session.proofs.say_chart.Statement.{statement}
+use Rattle.session.proofs.say_chart.Tie as tie
+
+bound-requires : tie.Need-bound-requires
+bound-requires c κs = search needs
+
+array-share-prefix-line : tie.Need-array-share-prefix-line
+array-share-prefix-line c = line-within _ _ _ (c .bound .ensures .0) (length-replicate {A = ℕ} 5439 0) (omega arith)
+
+slice-aggregate-write-all : tie.Need-slice-aggregate-write-all
+slice-aggregate-write-all c =
+    let ends = line-within _ _ _ (c .before .bound .ensures .0) (length-replicate {A = ℕ} 5439 0) (omega arith) in
+    sym (length-take-le _ _ ends)
+
+write-all-requires : tie.Need-write-all-requires
+write-all-requires c κs = search needs
+
+say-events-requires : tie.Need-say-events-requires
+say-events-requires c κs = search needs
+
+returns : tie.Need-returns
+returns c = search needs
+
+returns-2 : tie.Need-returns-2
+returns-2 c = search needs
+
+pub say-chart-spec : {M : Type 1} → statement M
+say-chart-spec =
+    tie.close
+    (tie.spec
+    bound-requires
+    array-share-prefix-line
+    slice-aggregate-write-all
+    write-all-requires
+    say-events-requires
+    returns
+    returns-2)

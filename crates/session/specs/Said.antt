@@ -1,0 +1,43 @@
+-- What the session program's functions leave: the text of a line, put into bytes. Assumes nothing.
+use mathlib.Core.Bool.{Bool, _&&_}
+use mathlib.Core.List.{List, [], _∷_, _++_}
+use Prim.Native.Nat.{ℕ, _+_}
+use lib.Dec.{leb}
+use lib.ListN.{length}
+use lib.Seq.{sets}
+use Rattle.rules.specs.Bytes.{Bytes, ascii}
+use Rattle.rules.specs.Chart.{Chart}
+use Rattle.rules.specs.Accept.{marked}
+use Rattle.rules.specs.Calls.{Board, Answer, boundCall}
+use Rattle.rules.specs.Session.{decimal, line, stepLine}
+
+-- bytes, and where the text in them ends
+pub record Line : Type 0 where
+  pub bytes : Bytes
+  pub end : ℕ
+
+-- a text put at a place, over what stands there
+abbrev pub withText : Bytes → ℕ → Bytes → Line
+withText b at text = record { bytes = sets b at text; end = at + length text }
+
+-- a space and a number, for each number
+unfoldable pub spaced : List ℕ → Bytes
+spaced [] = []
+spaced (n ∷ ns) = ascii " " ++ decimal 20 n ++ spaced ns
+
+-- the chart's own line
+abbrev pub boundLine : Chart → Bytes
+boundLine c = line (boundCall c .refusal .number ∷ boundCall c .bound ∷ [])
+
+-- a step's line, and what the step left
+pub record Told : Type 0 where
+  pub said : Line
+  pub board : Board
+  pub trace : Bytes
+
+abbrev pub told : Bytes → Answer → Told
+told b a = record { said = withText b 0 (stepLine a); board = a .board; trace = a .trace }
+
+-- an event's record comes next, whole
+abbrev pub startsWithEvent : Bytes → Bool
+startsWithEvent r = leb 3 (length r) && marked r "EV" 0

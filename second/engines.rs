@@ -1,0 +1,120 @@
+//! The proved calls and the second program behind one interface, and what a case leaves of the bytes lent to it.
+use crate::generate::cases::{Call, Case};
+use crate::program::calls::Calls;
+use std::ops::Range;
+
+mod proved {
+    extern "C" {
+        pub fn step(
+            chart: *const u8,
+            chart_bytes: usize,
+            board: *mut u8,
+            board_bytes: usize,
+            trace: *mut u8,
+            trace_bytes: usize,
+            lift: u32,
+            event: u32,
+            allowance: u32,
+        ) -> u64;
+        pub fn fresh(chart: *const u8, chart_bytes: usize, board: *mut u8, board_bytes: usize, lift: u32) -> u64;
+        pub fn bound(chart: *const u8, chart_bytes: usize) -> u64;
+    }
+}
+
+/// Something that can answer a case, given the bytes that are lent.
+pub trait Engine {
+    fn answer(&self, case: &Case, chart: &mut Lent, board: &mut Lent, trace: &mut Lent) -> u64;
+}
+
+/// The library of proved calls.
+pub struct Proved;
+
+impl Engine for Proved {
+    fn answer(&self, case: &Case, chart: &mut Lent, board: &mut Lent, trace: &mut Lent) -> u64 {
+        let [(c, c_bytes), (b, b_bytes), (t, t_bytes)] = [chart, board, trace].map(Lent::pointer);
+        unsafe {
+            match case.call {
+                Call::Step => proved::step(c, c_bytes, b, b_bytes, t, t_bytes, case.lift, case.event, case.allowance),
+                Call::Fresh => proved::fresh(c, c_bytes, b, b_bytes, case.lift),
+                Call::Bound => proved::bound(c, c_bytes),
+            }
+        }
+    }
+}
+
+impl Engine for Calls {
+    fn answer(&self, case: &Case, chart: &mut Lent, board: &mut Lent, trace: &mut Lent) -> u64 {
+        let (chart, board, trace) = (chart.slice(), board.slice_mut(), trace.slice_mut());
+        match case.call {
+            Call::Step => self.step(chart, board, trace, case.lift, case.event, case.allowance),
+            Call::Fresh => self.fresh(chart, board, case.lift),
+            Call::Bound => self.bound(chart),
+        }
+    }
+}
+
+/// A slice to lend, out of the middle of more bytes.
+#[derive(PartialEq)]
+pub struct Lent {
+    bytes: Vec<u8>,
+}
+
+impl Lent {
+    const GUARD: usize = 64;
+    const PATTERN: u8 = 0xA5;
+
+    fn new(content: &[u8]) -> Lent {
+        let mut bytes = Vec::with_capacity(content.len() + 2 * Lent::GUARD);
+        bytes.resize(Lent::GUARD, Lent::PATTERN);
+        bytes.extend(content);
+        bytes.resize(content.len() + 2 * Lent::GUARD, Lent::PATTERN);
+        Lent { bytes }
+    }
+
+    fn middle(&self) -> Range<usize> {
+        Lent::GUARD..self.bytes.len() - Lent::GUARD
+    }
+
+    pub fn slice(&self) -> &[u8] {
+        &self.bytes[self.middle()]
+    }
+
+    fn slice_mut(&mut self) -> &mut [u8] {
+        let middle = self.middle();
+        &mut self.bytes[middle]
+    }
+
+    /// Where the slice starts, and its length; the guards are within the pointer's reach, so that a write there is seen.
+    fn pointer(&mut self) -> (*mut u8, usize) {
+        let middle = self.middle();
+        (self.bytes[..].as_mut_ptr().wrapping_add(middle.start), middle.len())
+    }
+
+    /// The first byte in which two differ, counted from the lent slice's first: before and behind it are the guards.
+    pub fn first_difference(&self, other: &Lent) -> Option<(isize, u8, u8)> {
+        let mut pairs = self.bytes.iter().zip(&other.bytes).enumerate();
+        let (place, (&one, &two)) = pairs.find(|(_, (one, two))| one != two)?;
+        Some((place as isize - Lent::GUARD as isize, one, two))
+    }
+}
+
+/// What a call answered, and the bytes lent to it with their guards.
+#[derive(PartialEq)]
+pub struct Outcome {
+    pub answer: u64,
+    pub chart: Lent,
+    pub board: Lent,
+    pub trace: Lent,
+}
+
+/// Before a call the trace has bytes of its own, so that those not written can be told from those written.
+const TRACE_BEFORE: u8 = 0x5C;
+
+impl Outcome {
+    pub fn of(engine: &dyn Engine, case: &Case) -> Outcome {
+        let (mut chart, mut board) = (Lent::new(&case.chart), Lent::new(&case.board));
+        let mut trace = Lent::new(&vec![TRACE_BEFORE; case.trace]);
+        let answer = engine.answer(case, &mut chart, &mut board, &mut trace);
+        Outcome { answer, chart, board, trace }
+    }
+}

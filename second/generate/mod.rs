@@ -1,0 +1,17 @@
+//! Random cases: charts of every feature and size, damaged ones, images, and the calls with all that is lent to them; sessions.
+pub mod cases;
+mod charts;
+mod code;
+mod damage;
+mod damaged_code;
+mod damaged_tables;
+mod disturb;
+pub mod images;
+mod lively;
+pub mod plan;
+pub mod random;
+pub mod sessions;
+mod shapes;
+mod trees;
+mod weights;
+mod wiring;

@@ -1,0 +1,47 @@
+//! Charts for the bound call: bounds just under and over the limit, and weights beyond any number of 64 bits.
+use super::plan::*;
+use super::random::Random;
+
+/// A ladder of junctions, two segments from each to the next, weighs twice as much at each step; segments to its steps, the
+/// heaviest first, and at last such to a state make up any sum.
+pub fn exact(random: &mut Random) -> Plan {
+    const LIMIT: usize = 1_000_000;
+    let wanted = random.pick(&[LIMIT - 1, LIMIT, LIMIT, LIMIT + 1, LIMIT + 1, 2 * LIMIT]);
+    let mut plan = Plan::over_leaves(ONE_OF, random.between(1, 5));
+    let states = plan.states.len();
+    let steps = random.between(14, 17);
+    plan.junctions = vec![0; steps];
+    // what a segment to each step weighs
+    let mut weights = vec![2];
+    plan.segment(from_junction(0), to_state(1), 0);
+    for j in 1..steps {
+        plan.segment(from_junction(j), to_junction(j - 1), 0);
+        plan.segment(from_junction(j), to_junction(j - 1), 0);
+        weights.push(1 + 2 * weights[j - 1]);
+    }
+    // each state is run once, and G is two for each state
+    let mut rest = wanted - states * (1 + 2 * states);
+    while rest > 0 {
+        let place = if random.percent(50) { outer(random.between(1, states - 1)) } else { inner(random.between(1, states - 1)) };
+        let step = (0..steps).rev().find(|&j| weights[j] <= rest);
+        plan.segment(place, step.map_or(to_state(1), to_junction), random.below(4) as u8);
+        rest -= step.map_or(1, |j| weights[j]);
+    }
+    plan
+}
+
+/// A ladder with up to four segments at each step: as heavy as a chart can be.
+pub fn huge(random: &mut Random) -> Plan {
+    let mut plan = Plan::over_leaves(ONE_OF, 1);
+    let (steps, width) = (random.between(20, Plan::JUNCTIONS), random.between(2, 4));
+    plan.junctions = vec![0; steps];
+    for j in 1..steps {
+        for _ in 0..width {
+            plan.segment(from_junction(j), to_junction(j - 1), 1);
+        }
+    }
+    if random.percent(70) {
+        plan.segment(outer(1), to_junction(steps - 1), 2);
+    }
+    plan
+}
