@@ -113,23 +113,34 @@ static int parse(char *line, uint32_t *lift, uint32_t *event, uint32_t *allowanc
     if (number(&rest, allowance))
         line = rest;
     line += strspn(line, " \t\r");
-    return *line == '\n' || *line == 0;
+    return *line == 0;
+}
+
+/* The next line as a text, cut to its size; whether there is one. Whether that is the whole line, without a zero byte in it. */
+static int next_line(char *line, size_t size, int *whole)
+{
+    size_t length = 0;
+    int c = getchar();
+    if (c == EOF)
+        return 0;
+    for (; c != EOF && c != '\n'; c = getchar(), length++)
+        if (length < size - 1)
+            line[length] = (char)c;
+    line[length < size ? length : size - 1] = 0;
+    *whole = strlen(line) == length;
+    return 1;
 }
 
 static void serve(size_t length, uint32_t usual)
 {
     char line[80];
-    while (fgets(line, sizeof line, stdin) != NULL) {
+    int whole;
+    while (next_line(line, sizeof line, &whole)) {
         uint32_t lift, event, allowance = usual;
-        int whole = strchr(line, '\n') != NULL || feof(stdin);
-        if (whole && parse(line, &lift, &event, &allowance)) {
+        if (whole && parse(line, &lift, &event, &allowance))
             step_and_print(length, lift, event, allowance);
-            continue;
-        }
-        line[strcspn(line, "\r\n")] = 0;
-        printf("not an event: %s\n", line);
-        while (!whole && fgets(line, sizeof line, stdin) != NULL) /* the rest of a line that is too long */
-            whole = strchr(line, '\n') != NULL;
+        else
+            printf("not an event: %s\n", line);
     }
 }
 
@@ -147,5 +158,5 @@ int main(int count, char **words)
     if (!start_all(length))
         return 1;
     serve(length, usual_allowance(length));
-    return 0;
+    return fflush(stdout) == 0 ? 0 : 2;
 }

@@ -20,8 +20,8 @@ use std::time::Instant;
 const USAGE: &str = "compare run CASES SEED [SESSION-PROGRAM [WORDS]]\ncompare faults [SESSION-PROGRAM [WORDS]]";
 const SESSIONS: usize = 400;
 const FAULT_SEED: u64 = 1;
-const FAULT_CASES: usize = 100_000;
-const FAULT_SESSIONS: usize = 2_000;
+const FAULT_CASES: usize = 20_000;
+const FAULT_SESSIONS: usize = 400;
 
 fn main() {
     let words: Vec<String> = std::env::args().skip(1).collect();
@@ -123,8 +123,8 @@ fn output_of(program: &[&str], input: &[u8]) -> Result<Vec<u8>, String> {
     let _ = child.stdin.take().map(|mut stdin| stdin.write_all(input));
     let output = child.wait_with_output().map_err(failed)?;
     match output.status.code() {
-        Some(_) => Ok(output.stdout),
-        None => Err(format!("{}: {}, given {}", program.join(" "), output.status, hex(input))),
+        Some(0) => Ok(output.stdout),
+        _ => Err(format!("{}: {}, given {}", program.join(" "), output.status, hex(input))),
     }
 }
 

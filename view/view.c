@@ -1,5 +1,6 @@
 /* A viewer for those who draw charts and for the night desk: it tells in words what stands in a chart file, and what the steps of
- * a session file do. It only looks. Any bytes may stand in a file: only a chart that the library accepts is read further. */
+ * a session file do. It only looks. Any bytes may stand in a file: only a chart that the library accepts is read further. What is
+ * refused is told like the rest, and is no failure of the viewer. */
 #include <stdio.h>
 #include <string.h>
 #include "afraulenc.h"
@@ -391,5 +392,5 @@ int main(int count, char **words)
         view_chart(length);
     else
         view_session(length);
-    return 0;
+    return fflush(stdout) == 0 ? 0 : 2;
 }

@@ -8,7 +8,9 @@ use lib.Seq.{sets}
 use Rattle.rules.specs.Bytes.{Bytes, ascii}
 use Rattle.rules.specs.Chart.{Chart}
 use Rattle.rules.specs.Accept.{marked}
-use Rattle.rules.specs.Calls.{Board, Answer, boundCall}
+use Rattle.rules.specs.Lists.{if_then_else_, within}
+use Rattle.rules.specs.Doing.{mostUnits}
+use Rattle.rules.specs.Calls.{Board, Answer, freshCall, boundCall, stepCall}
 use Rattle.rules.specs.Session.{decimal, line, stepLine}
 
 -- bytes, and where the text in them ends
@@ -41,3 +43,23 @@ told b a = record { said = withText b 0 (stepLine a); board = a .board; trace = 
 -- an event's record comes next, whole
 abbrev pub startsWithEvent : Bytes → Bool
 startsWithEvent r = leb 3 (length r) && marked r "EV" 0
+
+-- a lift's board, and the trace that its steps are lent
+pub record Lent : Type 0 where
+  pub board : Board
+  pub trace : Bytes
+
+-- what the events leave: a step for each record, up to one that is none
+unfoldable pub afterEvents : Chart → Board → Bytes → Bytes → Lent
+afterEvents c board trace [] = record { board = board; trace = trace }
+afterEvents c board trace (m ∷ []) = record { board = board; trace = trace }
+afterEvents c board trace (m ∷ n ∷ []) = record { board = board; trace = trace }
+afterEvents c board trace (m ∷ n ∷ e ∷ rest) =
+    let a = stepCall c board trace 0 e mostUnits in
+    (if marked (m ∷ n ∷ []) "EV" 0 then afterEvents c (a .board) (a .trace) rest else record { board = board; trace = trace })
+
+-- what a chart and its events leave: unless the chart is refused, its lift is made fresh first
+unfoldable pub afterChart : Chart → Board → Bytes → Bytes → Lent
+afterChart c board trace events =
+    let left = afterEvents c (freshCall c board 0 .board) trace events in
+    (if within 1 11 (boundCall c .refusal .number) then record { board = board; trace = trace } else left)

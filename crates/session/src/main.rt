@@ -4,6 +4,8 @@ use libc::STDIN_FILENO;
 use libc::STDOUT_FILENO;
 use rules::images::Image;
 use rules::items::Item;
+ghost use mathlib.Core.Path.{_≡_};
+ghost use Rattle.session.specs.Said.{afterEvents, afterChart};
 
 mod lines; // numbers as text, in a line
 mod records; // what a session is made of
@@ -14,11 +16,10 @@ fn say_bad() {
 }
 
 // A line for each event, up to a record that is none.
-fn say_events(chart: &[u8], events: &[u8]) {
-    let mut board = [0u8; Image::SIZE];
-    let mut trace = [0u8; Item::SIZE * Item::MOST];
+fn say_events(chart: &[u8], board: &mut [u8], trace: &mut [u8], events: &[u8])
+    ensures { λ _. ⌜ record { board = now (board .exit); trace = now (trace .exit) } ≡ afterEvents (now (chart .entry)) (now (board .entry)) (now (trace .entry)) (now (events .entry)) ⌝ }
+{
     let mut line = [0u8; lines::LONGEST];
-    afraulenc::fresh(chart, &mut board, 0);
     let mut at = 0;
     while at < events.len() {
         let record = &events[at..];
@@ -26,18 +27,22 @@ fn say_events(chart: &[u8], events: &[u8]) {
             say_bad();
             return;
         }
-        let length = saying::step(chart, &mut board, &mut trace, record[2], &mut line);
+        let length = saying::step(chart, board, trace, record[2], &mut line);
         io::write_all(STDOUT_FILENO, &line[..length]);
         at += records::EVENT;
     }
 }
 
-fn say_chart(chart: &[u8], events: &[u8]) {
+// The chart's line, and the events on a lift that is made fresh for it.
+fn say_chart(chart: &[u8], board: &mut [u8], trace: &mut [u8], events: &[u8])
+    ensures { λ _. ⌜ record { board = now (board .exit); trace = now (trace .exit) } ≡ afterChart (now (chart .entry)) (now (board .entry)) (now (trace .entry)) (now (events .entry)) ⌝ }
+{
     let mut line = [0u8; lines::LONGEST];
     let said = saying::bound(chart, &mut line);
     io::write_all(STDOUT_FILENO, &line[..said.length]);
     if said.more {
-        say_events(chart, events);
+        afraulenc::fresh(chart, board, 0);
+        say_events(chart, board, trace, events);
     }
 }
 
@@ -50,5 +55,12 @@ fn main() {
         return;
     }
     let events = records::chart_end(session);
-    say_chart(&session[records::CHART..events], &session[events..]);
+    let mut board = [0u8; Image::SIZE];
+    let mut trace = [0u8; Item::SIZE * Item::MOST];
+    say_chart(
+        &session[records::CHART..events],
+        &mut board,
+        &mut trace,
+        &session[events..],
+    );
 }

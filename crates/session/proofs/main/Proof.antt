@@ -1,6 +1,6 @@
 -- A session that is not bad has its whole chart. Assumes nothing.
-use borrow.Author.Needs.{needs}
 use Rattle.session.proofs.Order.{chart-within}
+use borrow.Author.Needs.{needs}
 use Rattle.session.proofs.main.Statement.{statement}
 use Rattle.session.proofs.main.Tie as tie
 
@@ -37,11 +37,17 @@ part-say-chart-start c = search needs
 part-say-chart-end : tie.Need-part-say-chart-end
 part-say-chart-end c = chart-within _ (c .before .before .is-bad .ensures) (c .before .if1 .left) (c .chart-end .ensures)
 
+slice-aggregate-say-chart : tie.Need-slice-aggregate-say-chart
+slice-aggregate-say-chart c = search needs
+
+slice-aggregate-say-chart-2 : tie.Need-slice-aggregate-say-chart-2
+slice-aggregate-say-chart-2 c = search needs
+
 sub-say-chart-2 : tie.Need-sub-say-chart-2
-sub-say-chart-2 c = chart-within _ (c .before .before .before .is-bad .ensures) (c .before .before .if1 .left) (c .before .chart-end .ensures)
+sub-say-chart-2 c = chart-within _ (c .before .before .before .before .before .is-bad .ensures) (c .before .before .before .before .if1 .left) (c .before .before .before .chart-end .ensures)
 
 part-say-chart-start-2 : tie.Need-part-say-chart-start-2
-part-say-chart-start-2 c = chart-within _ (c .before .before .before .is-bad .ensures) (c .before .before .if1 .left) (c .before .chart-end .ensures)
+part-say-chart-start-2 c = chart-within _ (c .before .before .before .before .before .is-bad .ensures) (c .before .before .before .before .if1 .left) (c .before .before .before .chart-end .ensures)
 
 part-say-chart-end-2 : tie.Need-part-say-chart-end-2
 part-say-chart-end-2 c = search needs
@@ -67,6 +73,8 @@ main-spec =
     sub-say-chart
     part-say-chart-start
     part-say-chart-end
+    slice-aggregate-say-chart
+    slice-aggregate-say-chart-2
     sub-say-chart-2
     part-say-chart-start-2
     part-say-chart-end-2

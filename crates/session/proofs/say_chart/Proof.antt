@@ -1,11 +1,12 @@
--- The chart's line ends within its bytes. Assumes nothing.
+-- The chart's line ends within its bytes; then its lift is made fresh and the events follow, or nothing does. Assumes nothing.
 use mathlib.Core.Path.{sym}
 use Prim.Native.Nat.{ℕ}
 use native.Mathlib.Omega.{arith}
 use lib.ListN.{length-replicate}
 use lib.Seq.{length-take-le}
-use borrow.Author.Needs.{needs}
 use Rattle.session.proofs.Numbered.{line-within}
+use Rattle.session.proofs.Order.{chart-taken, chart-refused}
+use borrow.Author.Needs.{needs}
 use Rattle.session.proofs.say_chart.Statement.{statement}
 use Rattle.session.proofs.say_chart.Tie as tie
 
@@ -23,14 +24,23 @@ slice-aggregate-write-all c =
 write-all-requires : tie.Need-write-all-requires
 write-all-requires c κs = search needs
 
+fresh-requires : tie.Need-fresh-requires
+fresh-requires c κs = search needs
+
 say-events-requires : tie.Need-say-events-requires
 say-events-requires c κs = search needs
 
+same-length : tie.Need-same-length
+same-length c = search needs
+
+same-length-2 : tie.Need-same-length-2
+same-length-2 c = search needs
+
 returns : tie.Need-returns
-returns c = search needs
+returns c = chart-taken (c .before .before .before .before .before .before .before .before .before .before .before .before .before .before .before .before .before .before .before .before .args .chart .now) (c .before .before .before .before .before .before .before .before .before .before .before .before .before .before .before .before .before .before .before .before .args .board .now) (c .before .before .before .before .before .before .before .before .before .before .before .before .before .before .before .before .before .before .before .before .args .trace .now) (c .before .before .before .before .before .before .before .before .before .before .before .before .before .before .before .before .before .before .before .before .args .events .now) (c .before .before .before .before .before .before .before .before .before .before .before .before .before .before .bound .ensures .1) (c .before .before .before .before .before .before .before .before .before .before .before .if1 .taken) (c .before .before .before .before .before .before .before .before .before .fresh .ensures) (c .before .before .before .before .say-events .ensures)
 
 returns-2 : tie.Need-returns-2
-returns-2 c = search needs
+returns-2 c = chart-refused (c .before .before .before .before .before .before .before .before .before .args .chart .now) (c .before .before .before .before .before .before .before .before .before .args .board .now) (c .before .before .before .before .before .before .before .before .before .args .trace .now) (c .before .before .before .before .before .before .before .before .before .args .events .now) (c .before .before .before .bound .ensures .1) (c .if1 .left)
 
 pub say-chart-spec : {M : Type 1} → statement M
 say-chart-spec =
@@ -40,6 +50,9 @@ say-chart-spec =
     array-share-prefix-line
     slice-aggregate-write-all
     write-all-requires
+    fresh-requires
     say-events-requires
+    same-length
+    same-length-2
     returns
     returns-2)

@@ -1,30 +1,26 @@
--- The lent bytes keep their sizes, so each line ends within its bytes; and a record that is an event's is whole. Assumes nothing.
-use mathlib.Core.Path.{_≡_, sym, _∙_}
+-- The loop's invariant: what the events from here on leave, of the board and the trace as they are, is what they all leave of
+-- the first. The lent bytes keep their sizes, so each line ends within its bytes; an event's record is whole. Assumes nothing.
+use mathlib.Core.Path.{_≡_, refl, sym, _∙_}
 use Prim.Native.Nat.{_≤_, _-_}
-use lib.ListN.{length}
+use lib.ListN.{length, drop}
 use lib.Seq.{length-take-le}
 use borrow.Author.Needs.{needs}
-use Rattle.rules.specs.Image.{imageSize}
-use Rattle.session.proofs.Order.{record-whole, record-within}
+use Rattle.session.specs.Said.{afterEvents}
+use Rattle.session.proofs.Order.{record-whole, record-within, turn, turned-away, all-told}
 use Rattle.session.proofs.Answers.{step-within, step-size}
 use Rattle.session.proofs.say_events.Statement.{statement}
 use Rattle.session.proofs.say_events.Tie as tie
 
 abbrev Inv-loop : tie.InvT-loop
-Inv-loop chart events board₀ trace₀ line₀ at₀ board trace line at =
-    (at ≤ length events) × (length board ≡ imageSize) × (length trace ≡ 1024) × (length line ≡ 5439)
+Inv-loop chart board₀ trace₀ events line₀ at₀ board trace line at =
+    (at ≤ length events) × (length board ≡ length board₀) × (length trace ≡ length trace₀) × (length line ≡ 5439)
+    × (afterEvents chart board trace (drop at events) ≡ afterEvents chart board₀ trace₀ events)
 
 abbrev μ-loop : tie.MeasureT-loop
-μ-loop chart events board₀ trace₀ line₀ at₀ board trace line at = length events - at
-
-slice-aggregate-fresh : tie.Need-slice-aggregate-fresh Inv-loop μ-loop
-slice-aggregate-fresh c = search needs
-
-fresh-requires : tie.Need-fresh-requires Inv-loop μ-loop
-fresh-requires c κs = search needs
+μ-loop chart board₀ trace₀ events line₀ at₀ board trace line at = length events - at
 
 loop-holds : tie.Need-loop-holds Inv-loop μ-loop
-loop-holds c = search needs
+loop-holds c = (search needs, search needs, search needs, search needs, refl)
 
 sub-record : tie.Need-sub-record Inv-loop μ-loop
 sub-record c = search needs
@@ -41,31 +37,27 @@ is-event-requires c κs = search needs
 say-bad-requires : tie.Need-say-bad-requires Inv-loop μ-loop
 say-bad-requires c κs = search needs
 
+same-length : tie.Need-same-length Inv-loop μ-loop
+same-length c = search needs
+
+same-length-2 : tie.Need-same-length-2 Inv-loop μ-loop
+same-length-2 c = search needs
+
 returns : tie.Need-returns Inv-loop μ-loop
-returns c = search needs
-
-slice-aggregate-step : tie.Need-slice-aggregate-step Inv-loop μ-loop
-slice-aggregate-step c = search needs
-
-slice-aggregate-step-2 : tie.Need-slice-aggregate-step-2 Inv-loop μ-loop
-slice-aggregate-step-2 c = search needs
+returns c = turned-away (c .before .before .before .before .before .before .before .before .before .before .args .chart .now) (c .before .before .before .before .before .before .before .before .before .before .args .events .now) (c .before .before .before .before .before .loop .at) (c .before .before .before .before .before .loop .board) (c .before .before .before .before .before .loop .trace) (c .before .before .is-event .ensures) (c .before .if1 .taken) ∙ c .before .before .before .before .before .loop .inv .4
 
 shared-slice-read-step : tie.Need-shared-slice-read-step Inv-loop μ-loop
-shared-slice-read-step c =
-    record-whole (c .before .before .before .before .before .before .before .before .before .before .before .before .before .args .events .now)
-    (c .before .before .before .before .before .before .before .loop .at)
-    (c .before .before .before .before .is-event .ensures)
-    (c .before .before .before .if1 .left)
+shared-slice-read-step c = record-whole (c .before .before .before .before .before .before .before .before .before .before .before .before .args .events .now) (c .before .before .before .before .before .before .before .loop .at) (c .before .before .before .before .is-event .ensures) (c .before .before .before .if1 .left)
 
 step-requires : tie.Need-step-requires Inv-loop μ-loop
 step-requires c κs = search needs
 
 array-share-prefix-line : tie.Need-array-share-prefix-line Inv-loop μ-loop
-array-share-prefix-line c = step-within _ _ _ _ _ _ _ (c .before .before .step .ensures) (c .before .before .before .before .before .before .before .before .before .before .before .loop .inv .3)
+array-share-prefix-line c = step-within _ _ _ _ _ _ _ (c .before .before .before .before .step .ensures) (c .before .before .before .before .before .before .before .before .before .before .before .before .before .loop .inv .3)
 
 slice-aggregate-write-all : tie.Need-slice-aggregate-write-all Inv-loop μ-loop
 slice-aggregate-write-all c =
-    let ends = step-within _ _ _ _ _ _ _ (c .before .before .before .step .ensures) (c .before .before .before .before .before .before .before .before .before .before .before .before .loop .inv .3) in
+    let ends = step-within _ _ _ _ _ _ _ (c .before .before .before .before .before .step .ensures) (c .before .before .before .before .before .before .before .before .before .before .before .before .before .before .loop .inv .3) in
     sym (length-take-le _ _ ends)
 
 write-all-requires : tie.Need-write-all-requires Inv-loop μ-loop
@@ -79,18 +71,21 @@ loop-less c = search needs
 
 loop-again : tie.Need-loop-again Inv-loop μ-loop
 loop-again c = (
-  record-within (c .before .before .before .before .before .before .before .before .before .before .before .before .before .before .before .before .before .before .before .args .events .now)
-      (c .before .before .before .before .before .before .before .before .before .before .before .before .before .loop .at)
-      (c .before .before .before .before .before .before .before .before .before .before .is-event .ensures)
-      (c .before .before .before .before .before .before .before .before .before .if1 .left),
+  record-within (c .before .before .before .before .before .before .before .before .before .before .before .before .before .before .before .before .before .before .before .before .args .events .now) (c .before .before .before .before .before .before .before .before .before .before .before .before .before .before .before .loop .at) (c .before .before .before .before .before .before .before .before .before .before .before .before .is-event .ensures) (c .before .before .before .before .before .before .before .before .before .before .before .if1 .left),
   search needs,
   search needs,
-  step-size _ _ _ _ _ _ _ (c .before .before .before .before .step .ensures)
-      ∙ c .before .before .before .before .before .before .before .before .before .before .before .before .before .loop .inv .3,
+  step-size _ _ _ _ _ _ _ (c .before .before .before .before .before .before .step .ensures) ∙ c .before .before .before .before .before .before .before .before .before .before .before .before .before .before .before .loop .inv .3,
+  turn (c .before .before .before .before .before .before .before .before .before .before .before .before .before .before .before .before .before .before .before .before .args .chart .now) (c .before .before .before .before .before .before .before .before .before .before .before .before .before .before .before .before .before .before .before .before .args .events .now) (c .before .before .before .before .before .before .before .before .before .before .before .before .before .before .before .loop .at) (c .before .before .before .before .before .before .before .before .before .before .before .before .before .before .before .loop .board) (c .before .before .before .before .before .before .before .before .before .before .before .before .before .before .before .loop .trace) (c .before .before .before .before .before .before .before .before .before .before .before .before .is-event .ensures) (c .before .before .before .before .before .before .before .before .before .before .before .if1 .left) _ (c .before .before .before .before .before .before .step .ensures) ∙ c .before .before .before .before .before .before .before .before .before .before .before .before .before .before .before .loop .inv .4,
 )
 
+same-length-3 : tie.Need-same-length-3 Inv-loop μ-loop
+same-length-3 c = search needs
+
+same-length-4 : tie.Need-same-length-4 Inv-loop μ-loop
+same-length-4 c = search needs
+
 returns-2 : tie.Need-returns-2 Inv-loop μ-loop
-returns-2 c = search needs
+returns-2 c = all-told (c .before .before .before .before .before .before .args .chart .now) (c .before .before .before .before .before .before .args .events .now) (c .before .loop .at) (c .before .loop .board) (c .before .loop .trace) (c .loop-test .left) ∙ c .before .loop .inv .4
 
 pub say-events-spec : {M : Type 1} → statement M
 say-events-spec =
@@ -98,17 +93,15 @@ say-events-spec =
     (tie.spec
     Inv-loop
     μ-loop
-    slice-aggregate-fresh
-    fresh-requires
     loop-holds
     sub-record
     part-record-start
     part-record-end
     is-event-requires
     say-bad-requires
+    same-length
+    same-length-2
     returns
-    slice-aggregate-step
-    slice-aggregate-step-2
     shared-slice-read-step
     step-requires
     array-share-prefix-line
@@ -117,4 +110,6 @@ say-events-spec =
     add-at
     loop-less
     loop-again
+    same-length-3
+    same-length-4
     returns-2)
