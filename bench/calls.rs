@@ -1,6 +1,6 @@
 //! The measured programs behind one type: the proved library, the second program and the plain one.
 use crate::lifts;
-use crate::second::calls::Calls;
+use crate::second::calls::PAPER;
 
 mod library {
     extern "C" {
@@ -43,9 +43,6 @@ pub const PLAIN: Program = Program { step: lifts::step, fresh: lifts::fresh, bou
 /// In the order of every table's columns.
 pub const PROGRAMS: [Program; 3] = [PROVED, SECOND, PLAIN];
 pub const NAMES: [&str; 3] = ["proved", "second", "plain"];
-
-/// The second program by the paper's rules.
-const PAPER: Calls = Calls { fault: None };
 
 fn proved_step(chart: &[u8], board: &mut [u8], trace: &mut [u8], lift: u32, event: u32, allowance: u32) -> u64 {
     let (c, b, t) = (chart.as_ptr(), board.as_mut_ptr(), trace.as_mut_ptr());

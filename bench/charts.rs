@@ -1,8 +1,6 @@
 //! The charts that are measured one by one, drafted by code.
 use crate::draft::*;
 use crate::full;
-use Source::{Inner, Outer};
-use Target::State;
 
 /// A chart and the events that a lift of it gets, again and again.
 pub struct Case {
@@ -29,7 +27,7 @@ pub fn two_leaves() -> Case {
 
 /// The paper's own session of chart A: after it nothing moves any more, so it begins anew.
 fn chart_a() -> Case {
-    Case { chart: a(), events: vec![1, 1, 2], anew: true }
+    Case { chart: Draft::chart_a().bytes(), events: vec![1, 1, 2], anew: true }
 }
 
 pub fn middle() -> Case {
@@ -44,26 +42,17 @@ pub fn deepest(sends: Sends) -> Case {
 /// An event there and one back, as in peers/toggle.scxml.
 pub fn there_and_back() -> Draft {
     let mut draft = Draft::new(2, 0);
-    draft.state(0, ONE_OF, 1).state(0, LEAF, 0).state(0, LEAF, 0);
-    draft.segment(Outer(1), State(2), 1).segment(Outer(2), State(1), 2);
+    draft.state(0, ONE_OF, 1).leaves(0, 2).segment(outer(1), to_state(2), 1).segment(outer(2), to_state(1), 2);
     draft
 }
 
-fn a() -> Vec<u8> {
-    let mut draft = Draft::new(2, 1);
-    draft.state(0, ONE_OF, 1).state(0, LEAF, 0).state(0, LEAF, 0);
-    let raising = draft.block(&[raise(1)]);
-    draft.segment(Outer(1), State(2), 1).entry(2, raising);
-    draft.bytes()
-}
-
 /// v becomes (5v + k) modulo 1009, which stays within 32 bits.
-pub fn tick(v: u8, k: u8) -> [Instruction; 8] {
+pub fn tick(v: usize, k: usize) -> [Instruction; 8] {
     [load(v), push(5), MULTIPLY, push(k as i16), ADD, push(1009), REMAINDER, store(v)]
 }
 
 /// Whether v is odd.
-pub fn odd(v: u8) -> [Instruction; 3] {
+pub fn odd(v: usize) -> [Instruction; 3] {
     [load(v), push(2), REMAINDER]
 }
 
@@ -71,36 +60,28 @@ pub fn odd(v: u8) -> [Instruction; 3] {
 fn three_side_by_side() -> Vec<u8> {
     let mut draft = Draft::new(6, 4);
     draft.state(0, ALL_OF, 0);
-    draft.state(0, ONE_OF, 2).state(1, LEAF, 0).state(1, LEAF, 0).state(1, ONE_OF, 5).state(4, LEAF, 0).state(4, LEAF, 0);
-    draft.state(1, LEAF, 0).keep_history(4);
-    draft.state(0, ONE_OF, 9).state(8, LEAF, 0).state(8, LEAF, 0).state(8, LEAF, 0);
-    draft.state(0, ONE_OF, 13).state(12, LEAF, 0).state(12, LEAF, 0).state(12, LEAF, 0);
-    for parent in [1, 1, 8, 12] {
-        draft.junction(parent);
-    }
-    for v in 0..8 {
-        draft.variable(v);
-    }
+    draft.state(0, ONE_OF, 2).leaves(1, 2).state(1, ONE_OF, 5).history().leaves(4, 2).leaves(1, 1);
+    draft.state(0, ONE_OF, 9).leaves(8, 3).state(0, ONE_OF, 13).leaves(12, 3);
+    draft.junctions = vec![1, 1, 8, 12];
+    draft.variables = (0..8).collect();
     // states to states
     for (s, target, event) in [(2, 3, 1), (5, 6, 2), (6, 5, 3), (7, 2, 5), (9, 10, 1), (11, 9, 4), (13, 14, 1), (15, 13, 6)] {
-        draft.segment(Outer(s), State(target), event);
+        draft.segment(outer(s), to_state(target), event);
     }
     // states to junctions; the ringing call sends to the lamp
-    for (s, j, event) in [(3, 0, 0), (4, 1, 4), (10, 2, 2), (14, 3, 0)] {
-        draft.segment(Outer(s), Target::Junction(j), event);
+    draft.segment(outer(3), to_junction(0), 0).condition_action(&[send(6, 12)]);
+    for (s, j, event) in [(4, 1, 4), (10, 2, 2), (14, 3, 0)] {
+        draft.segment(outer(s), to_junction(j), event);
     }
-    let sends = draft.block(&[send(6, 12)]);
-    draft.condition_action(8, sends);
     // each junction to one state if its variable is odd, else to another
     for (j, if_odd, otherwise) in [(0, 4, 7), (1, 2, 7), (2, 9, 11), (3, 15, 13)] {
-        draft.segment(Source::Junction(j), State(if_odd), 0).segment(Source::Junction(j), State(otherwise), 0);
-        let asks = draft.block(&odd(j));
-        draft.condition(12 + 2 * j as usize, asks);
+        draft.segment(from_junction(j), to_state(if_odd), 0).condition(&odd(j));
+        draft.segment(from_junction(j), to_state(otherwise), 0);
     }
-    draft.segment(Inner(1), State(7), 6).segment(Inner(8), State(11), 6);
+    draft.segment(inner(1), to_state(7), 6).segment(inner(8), to_state(11), 6);
     for s in 1..16 {
         let (ticks, raises) = (draft.block(&tick(s % 8, s)), draft.block(&[raise(1 + s % 4)]));
-        draft.during(s as usize, ticks).entry(s as usize, raises).exit(s as usize, raises);
+        draft.states[s].blocks = [raises, ticks, raises];
     }
     draft.bytes()
 }
@@ -116,23 +97,20 @@ pub enum Sends {
 fn nine_levels(sends: Sends) -> Vec<u8> {
     const WAY: i16 = 70;
     let mut draft = Draft::new(1, 0);
-    for s in 0..9u8 {
-        draft.state(s.max(1) - 1, if s < 8 { ALL_OF } else { LEAF }, 0);
+    for s in 0..8usize {
+        draft.state(s.saturating_sub(1), ALL_OF, 0);
     }
-    draft.variable(0).variable(0).junction(0).junction(0);
-    let eight_open = draft.block(&[load(0), push(8), EQUAL]);
-    let goes_on = draft.block(&[load(1), push(WAY), LESS]);
-    let counts = draft.block(&[load(1), push(1), ADD, store(1)]);
-    let resets = draft.block(&[push(0), store(0), push(0), store(1)]);
-    let opens = draft.block(&[load(0), push(1), ADD, store(0), send(1, 0)]);
+    draft.leaves(7, 1).variable(0).variable(0).junction(0).junction(0);
     // junction 0 leads to itself while the way goes on, then to state 8; its parent is the root, so all levels are left
-    draft.segment(Outer(8), Target::Junction(0), 0).condition(0, eight_open);
-    draft.segment(Source::Junction(0), Target::Junction(0), 0).condition(1, goes_on).condition_action(1, counts);
-    draft.segment(Source::Junction(0), State(8), 0).transition_action(2, resets);
+    draft.segment(outer(8), to_junction(0), 0).condition(&[load(0), push(8), EQUAL]);
+    draft.segment(from_junction(0), to_junction(0), 0).condition(&[load(1), push(WAY), LESS]);
+    draft.condition_action(&[load(1), push(1), ADD, store(1)]);
+    draft.segment(from_junction(0), to_state(8), 0).transition_action(&[push(0), store(0), push(0), store(1)]);
+    let opens = [load(0), push(1), ADD, store(0), send(1, 0)];
     match sends {
-        Sends::InDuring => draft.during(8, opens),
+        Sends::InDuring => draft.during(opens),
         // junction 1 is a dead end
-        Sends::InConditionAction => draft.segment(Outer(8), Target::Junction(1), 0).condition_action(3, opens),
+        Sends::InConditionAction => draft.segment(outer(8), to_junction(1), 0).condition_action(opens),
     };
     draft.bytes()
 }

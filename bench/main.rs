@@ -2,8 +2,7 @@
 mod calls;
 mod charts;
 mod checks;
-#[allow(dead_code)]
-#[path = "plain/draft.rs"]
+#[path = "../second/draft.rs"]
 mod draft;
 mod events;
 mod full;

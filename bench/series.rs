@@ -1,8 +1,6 @@
 //! The charts of which one thing grows: the bytes, the units of an event, the levels.
 use crate::charts::{there_and_back, Case};
 use crate::draft::*;
-use Source::Outer;
-use Target::State;
 
 /// How far it has grown, and the units that an event of the case uses.
 pub struct Grown {
@@ -30,50 +28,43 @@ fn fill(draft: &mut Draft, eighths: usize) {
     let part = |whole: usize| whole * eighths / 8;
     let (states, junctions, variables) = (part(61), part(64), part(32));
     let (above, leaves) = (3, states - 1);
-    draft.state(0, ONE_OF, above + 1);
-    for _ in 0..leaves {
-        draft.state(above, LEAF, 0);
-    }
-    for n in 0..junctions {
-        draft.junction((n % 3) as u8);
-    }
-    for n in 0..variables {
-        draft.variable(n as i32);
-    }
+    draft.state(0, ONE_OF, above + 1).leaves(above, leaves);
+    draft.junctions = (0..junctions).map(|n| (n % 3) as u8).collect();
+    draft.variables = (0..variables as i32).collect();
     let (mut actions, mut conditions) = (vec![], vec![]);
     for n in 0..part(128) {
-        let v = (n % variables) as u8;
+        let v = n % variables;
         actions.push(draft.block(&[load(v), push(1), ADD, store(v)]));
         conditions.push(draft.block(&[load(v), push(2), REMAINDER, NOT]));
     }
     let of = |blocks: &[Block], n: usize| blocks[n % blocks.len()];
     for s in 3..3 + states {
-        draft.entry(s, of(&actions, s)).during(s, of(&actions, s + 1)).exit(s, of(&actions, s + 2));
+        draft.states[s].blocks = [s, s + 1, s + 2].map(|n| of(&actions, n));
     }
     for t in 2..2 + part(254) {
-        let (leaf, junction) = (above + 1 + (t % leaves) as u8, (t % junctions) as u8);
-        draft.segment(Outer(leaf), Target::Junction(junction), 1 + (t % 2) as u8);
-        draft.condition(t, of(&conditions, t)).condition_action(t, of(&actions, t)).transition_action(t, of(&actions, t + 1));
+        draft.segment(outer(above + 1 + t % leaves), to_junction(t % junctions), 1 + t % 2);
+        draft.condition(of(&conditions, t)).condition_action(of(&actions, t)).transition_action(of(&actions, t + 1));
     }
 }
 
 /// Two leaves side by side: the first sends to the other, more often on each next event.
 pub fn units() -> Vec<Grown> {
     const SENDS: [usize; 6] = [0, 1, 4, 16, 64, 240];
-    const SENT: u8 = 7;
+    const SENT: usize = 7;
     const TRIED: usize = 16;
     let mut draft = Draft::new(SENT, 0);
-    draft.state(0, ALL_OF, 0).state(0, LEAF, 0).state(0, LEAF, 0).variable(0);
+    draft.state(0, ALL_OF, 0).leaves(0, 2).variable(0);
     // a dead end, so that the first leaf stays
     draft.junction(0);
-    let sends = draft.code(&[send(SENT, 2); 240]);
+    let sends = draft.block(&[send(SENT, 2); 240]);
     let fails = draft.block(&[load(0), push(1), EQUAL]);
-    for (t, &count) in SENDS.iter().enumerate() {
-        let start = if count > 0 { sends } else { 0 };
-        draft.segment(Outer(1), Target::Junction(0), 1 + t as u8).condition_action(t, span(start, count));
+    for (place, &count) in SENDS.iter().enumerate() {
+        // they are the first instructions, so that none of them start at 0, too
+        let some = Block { count: count as u8, ..sends };
+        draft.segment(outer(1), to_junction(0), 1 + place).condition_action(some);
     }
-    for n in 0..TRIED {
-        draft.segment(Outer(2), State(1), SENT).condition(SENDS.len() + n, fails);
+    for _ in 0..TRIED {
+        draft.segment(outer(2), to_state(1), SENT).condition(fails);
     }
     let grown = |place: usize| {
         // three runs, the first leaf's segments up to the one that passes, all of the other's; and for each send: itself, a run,
@@ -86,18 +77,17 @@ pub fn units() -> Vec<Grown> {
 
 /// Two leaves at the bottom of so many levels: an event leaves and enters them all, since the way goes over the root's junctions.
 pub fn levels() -> Vec<Grown> {
-    let grown = |levels: u8| {
+    let grown = |levels: usize| {
         let (one, other) = (levels, levels + 1);
         let mut draft = Draft::new(2, 0);
         for s in 0..levels {
-            draft.state(s.max(1) - 1, ONE_OF, s + 1);
+            draft.state(s.saturating_sub(1), ONE_OF, s + 1);
         }
-        draft.state(levels - 1, LEAF, 0).state(levels - 1, LEAF, 0).junction(0).junction(0);
+        draft.leaves(levels - 1, 2).junction(0).junction(0);
         for (junction, from, to) in [(0, one, other), (1, other, one)] {
-            draft.segment(Outer(from), Target::Junction(junction), 1 + junction);
-            draft.segment(Source::Junction(junction), State(to), 0);
+            draft.segment(outer(from), to_junction(junction), 1 + junction);
+            draft.segment(from_junction(junction), to_state(to), 0);
         }
-        let levels = levels as usize;
         // the root's run, two segments tried; and each level is run, left and entered
         Grown { to: levels, units: 3 + 3 * levels, case: Case::new(draft.bytes(), vec![1, 2]) }
     };

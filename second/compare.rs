@@ -1,16 +1,20 @@
-//! The proved library and the second program on the same random cases: every answer and every byte has to be the same.
+//! The proved library, the second program and the plain program of the benchmarks on the same random cases: every answer and
+//! every byte has to be the same.
+mod draft;
 mod engines;
 mod generate;
 mod met;
+#[path = "../bench/plain/lifts.rs"]
+mod plain;
 mod program;
 
-use engines::{Outcome, Proved};
+use engines::{Engine, Outcome, Plain, Proved};
 use generate::cases::{Answer, Case, Stream};
 use generate::images::IMAGE;
 use generate::random::Random;
 use generate::sessions;
 use met::Met;
-use program::calls::Calls;
+use program::calls::{Calls, PAPER};
 use program::faults::{Fault, ALL};
 use std::io::Write;
 use std::panic::{catch_unwind, UnwindSafe};
@@ -18,6 +22,8 @@ use std::process::{exit, Command, Stdio};
 use std::time::Instant;
 
 const USAGE: &str = "compare run CASES SEED [SESSION-PROGRAM [WORDS]]\ncompare faults [SESSION-PROGRAM [WORDS]]";
+/// What the proved library is compared with.
+const OTHERS: [(&str, &dyn Engine); 2] = [("second", &PAPER), ("plain", &Plain)];
 const SESSIONS: usize = 400;
 const FAULT_SEED: u64 = 1;
 const FAULT_CASES: usize = 20_000;
@@ -43,16 +49,11 @@ fn main() {
 fn run(cases: usize, seed: u64, program: &[&str]) -> Result<(), String> {
     let start = Instant::now();
     let (mut stream, mut met) = (Stream::new(seed), Met::default());
-    let second = Calls { fault: None };
     for number in 1..=cases {
         let case = stream.next();
-        let (ours, theirs) = (Outcome::of(&Proved, &case), Outcome::of(&second, &case));
-        // the second program cannot write beyond what it is lent, so this compares the guards, too
-        if ours != theirs {
-            return Err(difference(seed, number, &case, &ours, &theirs));
-        }
-        if case.valid && (1..=11).contains(&(ours.answer % 256)) {
-            return Err(format!("both refuse a valid chart\n{}", difference(seed, number, &case, &ours, &theirs)));
+        let ours = Outcome::of(&Proved, &case);
+        if let Some(trouble) = difference(&case, &ours).or_else(|| valid_but_refused(&case, &ours)) {
+            return Err(format!("seed {seed}, case {number}: {}\n{trouble}", told(&case)));
         }
         met.count(&case, &ours);
         stream.learn(&case, ours.answer, ours.board.slice());
@@ -68,24 +69,39 @@ fn run(cases: usize, seed: u64, program: &[&str]) -> Result<(), String> {
     }
 }
 
-/// What a person needs to see the difference again.
-fn difference(seed: u64, number: usize, case: &Case, ours: &Outcome, theirs: &Outcome) -> String {
-    let mut text = format!("seed {seed}, case {number}: {:?}", case.call);
-    text += &format!(", lift {}, event {}, allowance {}", case.lift, case.event, case.allowance);
+/// What a person needs to see a case again.
+fn told(case: &Case) -> String {
+    let mut text = format!("{:?}, lift {}, event {}, allowance {}", case.call, case.lift, case.event, case.allowance);
     text += &format!(", board of {} bytes, trace of {} bytes\n", case.board.len(), case.trace);
-    for (name, answer) in [("proved", ours.answer), ("second", theirs.answer)] {
-        let told = Answer::of_step(answer);
-        text += &format!("{name}: {answer} (refusal {}; for a step {} items, {} units)\n", told.refusal, told.items, told.units);
-    }
+    let image = case.board.chunks(IMAGE).nth(case.lift as usize).unwrap_or_default();
+    text + &format!("chart: {}\nimage: {}", hex(&case.chart), hex(image))
+}
+
+/// What the first of the others that does not do the same does otherwise. They cannot write beyond what they are lent, so this
+/// compares the guards, too.
+fn difference(case: &Case, ours: &Outcome) -> Option<String> {
+    let mut outcomes = OTHERS.iter().map(|(name, engine)| (name, Outcome::of(*engine, case)));
+    let (other, theirs) = outcomes.find(|(_, theirs)| ours != theirs)?;
+    let mut lines = vec![answer_told("proved", ours.answer), answer_told(other, theirs.answer)];
     let lent =
         [("chart", &ours.chart, &theirs.chart), ("board", &ours.board, &theirs.board), ("trace", &ours.trace, &theirs.trace)];
     for (name, one, two) in lent {
         if let Some((place, one, two)) = one.first_difference(two) {
-            text += &format!("{name} byte {place}: proved {one}, second {two}\n");
+            lines.push(format!("{name} byte {place}: proved {one}, {other} {two}"));
         }
     }
-    let image = case.board.chunks(IMAGE).nth(case.lift as usize).unwrap_or_default();
-    text + &format!("chart: {}\nimage: {}", hex(&case.chart), hex(image))
+    Some(lines.join("\n"))
+}
+
+fn answer_told(name: &str, answer: u64) -> String {
+    let told = Answer::of_step(answer);
+    format!("{name}: {answer} (refusal {}; for a step {} items, {} units)", told.refusal, told.items, told.units)
+}
+
+/// Programs that refuse too much would agree, too.
+fn valid_but_refused(case: &Case, ours: &Outcome) -> Option<String> {
+    let refused = case.valid && (1..=11).contains(&(ours.answer % 256));
+    refused.then(|| format!("all refuse a valid chart\n{}", answer_told("proved", ours.answer)))
 }
 
 fn hex(bytes: &[u8]) -> String {
@@ -97,7 +113,7 @@ fn compare_sessions(seed: u64, program: &[&str]) -> Result<(), String> {
     let mut random = Random::new(seed);
     for number in 1..=SESSIONS {
         let session = sessions::any(&mut random);
-        let (ours, theirs) = (output_of(program, &session)?, Calls { fault: None }.session(&session));
+        let (ours, theirs) = (output_of(program, &session)?, PAPER.session(&session));
         if ours != theirs {
             return Err(format!("seed {seed}, session {number}: {}\n{}", hex(&session), first_line_apart(&ours, &theirs)));
         }
@@ -162,7 +178,7 @@ fn session_that_finds(fault: Fault, program: &[&str]) -> Result<Option<(usize, &
     let mut random = Random::new(FAULT_SEED);
     for number in 1..=FAULT_SESSIONS {
         let session = sessions::any(&mut random);
-        let right = if program.is_empty() { Calls { fault: None }.session(&session) } else { output_of(program, &session)? };
+        let right = if program.is_empty() { PAPER.session(&session) } else { output_of(program, &session)? };
         if let Some(sign) = sign_of(&right, || Calls { fault: Some(fault) }.session(&session)) {
             return Ok(Some((number, sign)));
         }

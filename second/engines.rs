@@ -1,5 +1,6 @@
-//! The proved calls and the second program behind one interface, and what a case leaves of the bytes lent to it.
+//! The proved calls, the second program and the plain one behind one interface, and what a case leaves of the bytes lent to it.
 use crate::generate::cases::{Call, Case};
+use crate::plain;
 use crate::program::calls::Calls;
 use std::ops::Range;
 
@@ -49,6 +50,20 @@ impl Engine for Calls {
             Call::Step => self.step(chart, board, trace, case.lift, case.event, case.allowance),
             Call::Fresh => self.fresh(chart, board, case.lift),
             Call::Bound => self.bound(chart),
+        }
+    }
+}
+
+/// The plain program, which the benchmarks measure the proved calls by.
+pub struct Plain;
+
+impl Engine for Plain {
+    fn answer(&self, case: &Case, chart: &mut Lent, board: &mut Lent, trace: &mut Lent) -> u64 {
+        let (chart, board, trace) = (chart.slice(), board.slice_mut(), trace.slice_mut());
+        match case.call {
+            Call::Step => plain::step(chart, board, trace, case.lift, case.event, case.allowance),
+            Call::Fresh => plain::fresh(chart, board, case.lift),
+            Call::Bound => plain::bound(chart),
         }
     }
 }

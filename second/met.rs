@@ -1,8 +1,8 @@
 //! What the cases met: how often each number was answered by each call, and what there was in the steps that were not refused.
+use crate::draft::{Draft, ALL_OF};
 use crate::engines::Outcome;
 use crate::generate::cases::{Answer, Call, Case};
 use crate::generate::images::{HISTORY, IMAGE};
-use crate::generate::plan::{Plan, ALL_OF};
 
 /// The kinds of items, in the order of their numbers.
 const KINDS: [&str; 6] =
@@ -93,7 +93,7 @@ fn path_lengths(items: &[Item]) -> Vec<usize> {
 
 /// The record of a state in the chart.
 fn state_of(case: &Case, state: usize) -> &[u8] {
-    &case.chart[Plan::HEADER + Plan::STATE * state..]
+    &case.chart[Draft::HEADER + Draft::STATE * state..]
 }
 
 fn entered_as_recorded(case: &Case, state: usize) -> bool {

@@ -1,4 +1,7 @@
 //! A block that cannot send, performed plainly: what `blocks` does, written from the paper in another language.
+#[path = "ops.rs"] // the file is both a program of its own, for its tests, and a part of another
+mod ops;
+use ops::combine;
 
 pub const IMAGE: usize = 202;
 const VARIABLES: usize = 74;
@@ -6,20 +9,6 @@ const STACK: usize = 16;
 
 fn variable_at(a: u8) -> usize {
     VARIABLES + 4 * a as usize
-}
-
-/// A binary op on lower and top, or nothing where the result is outside 32 bits or the divisor is 0.
-fn combine(op: u8, x: i32, y: i32) -> Option<i32> {
-    match op {
-        3 => x.checked_add(y),
-        4 => x.checked_sub(y),
-        5 => x.checked_mul(y),
-        6 => x.checked_div(y),
-        7 if y == 0 => None,
-        7 => Some(x.wrapping_rem(y)),
-        8 => Some((x < y) as i32),
-        _ => Some((x == y) as i32),
-    }
 }
 
 /// The instructions of an accepted chart's block, each six bytes; or the number of the refusal.

@@ -113,7 +113,7 @@ impl Visit {
     /// Another image for a lift that has none yet, or whose steps end in refusals.
     fn renew(&mut self, random: &mut Random) {
         let start = IMAGE * self.lift as usize;
-        self.board[start..start + IMAGE].copy_from_slice(&images::accepted(random, &self.chart.plan));
+        self.board[start..start + IMAGE].copy_from_slice(&images::accepted(random, &self.chart.draft));
     }
 }
 
@@ -165,12 +165,12 @@ impl Stream {
             board: visit.board.clone(),
             trace: random.pick(&[TRACE, TRACE, TRACE, TRACE + 4, 2 * TRACE]),
             lift: visit.lift,
-            event: random.between(1, visit.chart.plan.events as usize) as u32,
+            event: random.between(1, visit.chart.draft.events as usize) as u32,
             allowance: MOST_UNITS,
         };
         if call != Call::Bound && random.percent(40) {
             for _ in 0..random.pick(&[1, 1, 2, 2, 3]) {
-                disturb(random, &visit.chart.plan, &mut case);
+                disturb(random, &visit.chart.draft, &mut case);
             }
         }
         case

@@ -1,6 +1,6 @@
 //! Random code: pieces that stand one behind the other, so that blocks share instructions and overlap.
-use super::plan::*;
 use super::random::Random;
+use crate::draft::*;
 
 /// Instructions that need nothing on the stack: first those that leave one value, then the one that takes it, or a raise or send.
 struct Piece {
@@ -15,13 +15,13 @@ pub struct Pool {
 }
 
 impl Pool {
-    /// New code for the plan, about as long as wanted; of a hundred pieces so many are sends.
-    pub fn write(random: &mut Random, plan: &mut Plan, wanted: usize, sends: usize) -> Pool {
+    /// New code for the draft, about as long as wanted; of a hundred pieces so many are sends.
+    pub fn write(random: &mut Random, draft: &mut Draft, wanted: usize, sends: usize) -> Pool {
         // the longest piece is a tower with its store
-        const LONGEST: usize = 2 * Plan::STACK;
+        const LONGEST: usize = 2 * Draft::STACK;
         let mut pieces = Vec::new();
-        while plan.code.len() < wanted && plan.code.len() + LONGEST <= Plan::CODE {
-            pieces.push(write_piece(random, plan, sends));
+        while draft.code.len() < wanted && draft.code.len() + LONGEST <= Draft::CODE {
+            pieces.push(write_piece(random, draft, sends));
         }
         Pool { pieces }
     }
@@ -47,7 +47,7 @@ impl Pool {
         let mut count = 0;
         for piece in self.pieces[first..].iter().take(wanted) {
             let leaves_nothing = piece.value < piece.length;
-            if !leaves_nothing || piece.sends && !may_send || count + piece.length > Plan::BLOCK {
+            if !leaves_nothing || piece.sends && !may_send || count + piece.length > Draft::BLOCK {
                 break;
             }
             count += piece.length;
@@ -60,56 +60,56 @@ fn block_at(start: usize, count: usize) -> Block {
     if count == 0 {
         Block::default()
     } else {
-        Block { start: start as u16, count: count as u8 }
+        Block::new(start, count)
     }
 }
 
-fn write_piece(random: &mut Random, plan: &mut Plan, sends: usize) -> Piece {
-    let start = plan.code.len();
+fn write_piece(random: &mut Random, draft: &mut Draft, sends: usize) -> Piece {
+    let start = draft.code.len();
     if random.percent(sends) {
-        let (event, state) = (random.between(1, plan.events as usize), random.below(plan.states.len()));
-        plan.code.push(send(event, state));
+        let (event, state) = (random.between(1, draft.events as usize), random.below(draft.states.len()));
+        draft.code.push(send(event, state));
         return Piece { start, value: 0, length: 1, sends: true };
     }
-    if plan.outputs > 0 && random.percent(35) {
-        plan.code.push(raise(random.between(1, plan.outputs as usize)));
+    if draft.outputs > 0 && random.percent(35) {
+        draft.code.push(raise(random.between(1, draft.outputs as usize)));
         return Piece { start, value: 0, length: 1, sends: false };
     }
     if random.one_in(60) {
-        write_tower(random, plan, Plan::STACK);
+        write_tower(random, draft, Draft::STACK);
     } else {
         let size = random.between(1, 6);
-        write_value(random, plan, size);
+        write_value(random, draft, size);
     }
-    let value = plan.code.len() - start;
-    if !plan.variables.is_empty() {
-        plan.code.push(store(random.below(plan.variables.len())));
+    let value = draft.code.len() - start;
+    if !draft.variables.is_empty() {
+        draft.code.push(store(random.below(draft.variables.len())));
     }
-    Piece { start, value, length: plan.code.len() - start, sends: false }
+    Piece { start, value, length: draft.code.len() - start, sends: false }
 }
 
 /// Instructions that leave one value; a size of at most 6 keeps far from the stack's end.
-fn write_value(random: &mut Random, plan: &mut Plan, size: usize) {
+fn write_value(random: &mut Random, draft: &mut Draft, size: usize) {
     const BINARY: [Instruction; 12] =
         [ADD, ADD, SUBTRACT, SUBTRACT, MULTIPLY, QUOTIENT, REMAINDER, LESS, LESS, LESS, EQUAL, EQUAL];
     if size <= 1 {
-        let leaf = any_leaf(random, plan);
-        plan.code.push(leaf);
+        let leaf = any_leaf(random, draft);
+        draft.code.push(leaf);
     } else if random.percent(15) {
-        write_value(random, plan, size - 1);
-        plan.code.push(NOT);
+        write_value(random, draft, size - 1);
+        draft.code.push(NOT);
     } else {
         let left = random.between(1, size - 1);
-        write_value(random, plan, left);
-        write_value(random, plan, size - left);
-        plan.code.push(random.pick(&BINARY));
+        write_value(random, draft, left);
+        write_value(random, draft, size - left);
+        draft.code.push(random.pick(&BINARY));
     }
 }
 
-fn any_leaf(random: &mut Random, plan: &Plan) -> Instruction {
+fn any_leaf(random: &mut Random, draft: &Draft) -> Instruction {
     const WIDE: [i16; 7] = [i16::MIN, i16::MAX, -256, 255, 256, 1000, -1000];
-    if !plan.variables.is_empty() && random.percent(55) {
-        load(random.below(plan.variables.len()))
+    if !draft.variables.is_empty() && random.percent(55) {
+        load(random.below(draft.variables.len()))
     } else if random.percent(12) {
         push(random.pick(&WIDE))
     } else {
@@ -118,13 +118,13 @@ fn any_leaf(random: &mut Random, plan: &Plan) -> Instruction {
 }
 
 /// As many values as the height, one on the other, and then all made one.
-pub fn write_tower(random: &mut Random, plan: &mut Plan, height: usize) {
+pub fn write_tower(random: &mut Random, draft: &mut Draft, height: usize) {
     for _ in 0..height {
-        let leaf = any_leaf(random, plan);
-        plan.code.push(leaf);
+        let leaf = any_leaf(random, draft);
+        draft.code.push(leaf);
     }
     for _ in 1..height {
-        plan.code.push(random.pick(&[LESS, EQUAL, ADD, SUBTRACT]));
+        draft.code.push(random.pick(&[LESS, EQUAL, ADD, SUBTRACT]));
     }
 }
 

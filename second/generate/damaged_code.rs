@@ -1,7 +1,7 @@
 //! Ways to break the rules of blocks, of instructions, of the stack, and of what is barred where: numbers 8 to 11.
 use super::code::write_tower;
-use super::plan::*;
 use super::random::Random;
+use crate::draft::*;
 
 /// Whose block it is.
 #[derive(Clone, Copy)]
@@ -12,64 +12,65 @@ enum Owner {
 
 impl Owner {
     /// Any but the root, which has no blocks.
-    fn any(random: &mut Random, plan: &Plan) -> Owner {
+    fn any(random: &mut Random, draft: &Draft) -> Owner {
         if random.percent(50) {
-            Owner::Segment(random.below(plan.segments.len()))
+            Owner::Segment(random.below(draft.segments.len()))
         } else {
-            Owner::State(random.between(1, plan.states.len() - 1))
+            Owner::State(random.between(1, draft.states.len() - 1))
         }
     }
 
-    fn blocks(self, plan: &mut Plan) -> &mut [Block; 3] {
+    fn blocks(self, draft: &mut Draft) -> &mut [Block; 3] {
         match self {
-            Owner::State(s) => &mut plan.states[s].blocks,
-            Owner::Segment(t) => &mut plan.segments[t].blocks,
+            Owner::State(s) => &mut draft.states[s].blocks,
+            Owner::Segment(t) => &mut draft.segments[t].blocks,
         }
     }
 }
 
 /// A block past the instructions, an empty one with a start, or one of the root.
-pub fn block(random: &mut Random, plan: &mut Plan) {
-    let length = plan.code.len();
-    let count = random.between(1, length.min(Plan::BLOCK));
+pub fn block(random: &mut Random, draft: &mut Draft) {
+    let length = draft.code.len();
+    let count = random.between(1, length.min(Draft::BLOCK));
     let wrong = match random.below(10) {
-        0..=3 => Block { start: (length + 1 - count) as u16, count: count as u8 },
-        4 => Block { start: length as u16, count: 1 },
+        0..=3 => Block::new(length + 1 - count, count),
+        4 => Block::new(length, 1),
         5 => Block { start: u16::MAX, count: random.nonzero_byte() },
-        6 => Block { start: random.between(1, length) as u16, count: 0 },
+        6 => Block::new(random.between(1, length), 0),
         7 => Block { start: random.pick(&[1, 256, u16::MAX]), count: 0 },
         _ => {
-            let raises = new_block(random, plan, &[raise(1)]);
-            plan.states[0].blocks[random.below(3)] = raises;
+            let raises = new_block(random, draft, &[raise(1)]);
+            draft.states[0].blocks[random.below(3)] = raises;
             return;
         }
     };
-    Owner::any(random, plan).blocks(plan)[random.below(3)] = wrong;
+    Owner::any(random, draft).blocks(draft)[random.below(3)] = wrong;
 }
 
 /// Code behind the rest, or, where it has no place, in place of the last instructions.
-fn new_block(random: &mut Random, plan: &mut Plan, code: &[Instruction]) -> Block {
-    plan.code.truncate(Plan::CODE - code.len());
-    let block = plan.block(code);
-    if random.percent(30) && plan.code.len() < Plan::CODE {
-        plan.code.push(NOT);
+fn new_block(random: &mut Random, draft: &mut Draft, code: &[Instruction]) -> Block {
+    draft.code.truncate(Draft::CODE - code.len());
+    let block = draft.block(code);
+    if random.percent(30) && draft.code.len() < Draft::CODE {
+        draft.code.push(NOT);
     }
     block
 }
 
 /// An instruction that is wrong wherever it stands, among the others or behind them.
-pub fn instruction(random: &mut Random, plan: &mut Plan) {
-    let wrong = wrong_instruction(random, plan);
-    if random.percent(50) && plan.code.len() < Plan::CODE {
-        plan.code.push(wrong);
+pub fn instruction(random: &mut Random, draft: &mut Draft) {
+    let wrong = wrong_instruction(random, draft);
+    if random.percent(50) && draft.code.len() < Draft::CODE {
+        draft.code.push(wrong);
     } else {
-        let place = random.below(plan.code.len());
-        plan.code[place] = wrong;
+        let place = random.below(draft.code.len());
+        draft.code[place] = wrong;
     }
 }
 
-fn wrong_instruction(random: &mut Random, plan: &Plan) -> Instruction {
-    let (variables, outputs, events, states) = (plan.variables.len() as u8, plan.outputs, plan.events, plan.states.len() as i16);
+fn wrong_instruction(random: &mut Random, draft: &Draft) -> Instruction {
+    let (variables, outputs, events, states) =
+        (draft.variables.len() as u8, draft.outputs, draft.events, draft.states.len() as i16);
     let (mark, not_zero) = (random.nonzero_byte(), random.pick(&[1, -1, 256, i16::MIN]));
     match random.below(10) {
         0 => (random.pick(&[13, 14, 255]), 0, 0),
@@ -86,8 +87,8 @@ fn wrong_instruction(random: &mut Random, plan: &Plan) -> Instruction {
 }
 
 /// A block that takes what is not there, has too much on the stack, or ends with too much or too little.
-pub fn stack(random: &mut Random, plan: &mut Plan) {
-    let (owner, place) = (Owner::any(random, plan), random.below(3));
+pub fn stack(random: &mut Random, draft: &mut Draft) {
+    let (owner, place) = (Owner::any(random, draft), random.below(3));
     let condition = matches!(owner, Owner::Segment(_)) && place == CONDITION;
     let binary = (random.between(3, 9) as u8, 0, 0);
     let code = match random.below(9) {
@@ -101,24 +102,24 @@ pub fn stack(random: &mut Random, plan: &mut Plan) {
         6 => vec![push(1), store(0), store(0), push(1)],
         _ => Vec::new(),
     };
-    let wrong = if code.is_empty() { tower(random, plan, condition) } else { new_block(random, plan, &code) };
-    owner.blocks(plan)[place] = wrong;
+    let wrong = if code.is_empty() { tower(random, draft, condition) } else { new_block(random, draft, &code) };
+    owner.blocks(draft)[place] = wrong;
 }
 
 /// One value more than the stack may have, with the end that the place asks for.
-fn tower(random: &mut Random, plan: &mut Plan, condition: bool) -> Block {
-    let mut code = Plan { variables: plan.variables.clone(), ..Plan::default() };
-    write_tower(random, &mut code, Plan::STACK + 1);
+fn tower(random: &mut Random, draft: &mut Draft, condition: bool) -> Block {
+    let mut code = Draft { variables: draft.variables.clone(), ..Draft::default() };
+    write_tower(random, &mut code, Draft::STACK + 1);
     if !condition {
         code.code.push(store(0));
     }
-    new_block(random, plan, &code.code)
+    new_block(random, draft, &code.code)
 }
 
 /// A store, raise or send that only its place forbids: the stack use is right.
-pub fn barred(random: &mut Random, plan: &mut Plan) {
-    let sends = send(1, random.below(plan.states.len()));
-    let owner = Owner::any(random, plan);
+pub fn barred(random: &mut Random, draft: &mut Draft) {
+    let sends = send(1, random.below(draft.states.len()));
+    let owner = Owner::any(random, draft);
     let place = match owner {
         Owner::State(_) => random.pick(&[ENTRY, EXIT]),
         Owner::Segment(_) => random.pick(&[CONDITION, CONDITION, TRANSITION_ACTION]),
@@ -131,5 +132,5 @@ pub fn barred(random: &mut Random, plan: &mut Plan) {
         0 => &[sends],
         _ => &[raise(1), sends],
     };
-    owner.blocks(plan)[place] = new_block(random, plan, code);
+    owner.blocks(draft)[place] = new_block(random, draft, code);
 }

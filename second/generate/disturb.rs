@@ -1,17 +1,17 @@
 //! Cases other than usual: images damaged, lifts and events that there are not, boards and traces that end early.
 use super::cases::{Case, LIFTS, MOST_UNITS};
 use super::images::{self, IMAGE};
-use super::plan::Plan;
 use super::random::Random;
+use crate::draft::Draft;
 
 /// One thing of a case other than usual, which may make it one to be refused.
-pub fn disturb(random: &mut Random, plan: &Plan, case: &mut Case) {
+pub fn disturb(random: &mut Random, draft: &Draft, case: &mut Case) {
     match random.below(100) {
-        0..=44 => disturb_image(random, plan, case),
+        0..=44 => disturb_image(random, draft, case),
         45..=54 => disturb_lift(random, case),
         55..=62 => disturb_board(random, case),
         63..=72 => {
-            case.event = random.pick(&[0, 0, plan.events as u32 + 1, plan.events as u32 + 1, 33, 256, 257, 1 << 31, u32::MAX])
+            case.event = random.pick(&[0, 0, draft.events as u32 + 1, draft.events as u32 + 1, 33, 256, 257, 1 << 31, u32::MAX])
         }
         73..=84 => {
             let small = random.below(60) as u32;
@@ -31,9 +31,9 @@ fn part_of(case: &mut Case) -> Option<&mut [u8]> {
     case.board.get_mut(start..start + IMAGE)
 }
 
-fn disturb_image(random: &mut Random, plan: &Plan, case: &mut Case) {
+fn disturb_image(random: &mut Random, draft: &Draft, case: &mut Case) {
     if let Some(image) = part_of(case) {
-        images::damage(random, plan, image);
+        images::damage(random, draft, image);
     }
 }
 

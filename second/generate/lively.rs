@@ -1,12 +1,12 @@
 //! Valid charts in which much happens: moves while others have yet to be run, webs of junctions, arithmetic, deep trees.
 use super::charts;
 use super::code::any_value;
-use super::plan::*;
 use super::random::Random;
 use super::trees;
 use super::wiring::Wiring;
+use crate::draft::*;
 
-pub fn any(random: &mut Random) -> Plan {
+pub fn any(random: &mut Random) -> Draft {
     match random.below(100) {
         0..=29 => crossing(random),
         30..=49 => wings(random),
@@ -17,59 +17,57 @@ pub fn any(random: &mut Random) -> Plan {
 }
 
 /// States that send event 2, on which most of them move: owners are left, are entered again, or stay while others go.
-fn crossing(random: &mut Random) -> Plan {
+fn crossing(random: &mut Random) -> Draft {
     let count = random.between(3, 9);
-    let mut plan = Plan { states: trees::grow(random, count), events: 3, outputs: 2, ..Plan::default() };
-    plan.junctions = vec![random.below(count) as u8; 2];
+    let mut draft = Draft { states: trees::grow(random, count), events: 3, outputs: 2, ..Draft::default() };
+    draft.junctions = vec![random.below(count) as u8; 2];
     for s in 1..count {
         let [any, other] = [1, 2].map(|_| random.between(1, count - 1));
-        let receiver = random.pick(&[0, plan.states[s].parent as usize, any]);
-        let sends = plan.block(&[raise(1), send(2, receiver), raise(2)]);
+        let receiver = random.pick(&[0, draft.states[s].parent as usize, any]);
+        let sends = draft.block(&[raise(1), send(2, receiver), raise(2)]);
         // what has children of its own mostly leaves it to them to move
-        let moving = if plan.states[s].kind == LEAF { 85 } else { 35 };
+        let moving = if draft.states[s].kind == LEAF { 85 } else { 35 };
         if random.percent(moving) {
-            plan.segment(outer(s), to_state(any), 2);
+            draft.segment(outer(s), to_state(any), 2);
         }
         if random.percent(25) {
-            plan.states[s].blocks[DURING] = sends;
+            draft.states[s].blocks[DURING] = sends;
         } else if random.percent(60) {
             let source = random.pick(&[outer(s), outer(s), inner(s), from_junction(0)]);
             let destination = random.pick(&[to_state(s), to_state(other), to_junction(0), to_junction(1)]);
-            let t = plan.segment(source, destination, random.pick(&[1, 3]));
-            plan.segments[t].blocks[CONDITION_ACTION] = sends;
+            draft.segment(source, destination, random.pick(&[1, 3])).condition_action(sends);
         }
     }
-    plan.segment(from_junction(0), to_state(random.between(1, count - 1)), 0);
-    plan
+    draft.segment(from_junction(0), to_state(random.between(1, count - 1)), 0);
+    draft
 }
 
 /// States side by side, each over leaves that move within it and across: what an all-of state has yet to run may be left by then.
-fn wings(random: &mut Random) -> Plan {
+fn wings(random: &mut Random) -> Draft {
     let wings = random.between(2, 3);
     // the kinds are settled when all children are there
-    let mut plan = Plan::over_leaves(LEAF, wings);
+    let mut draft = Draft::over_leaves(LEAF, wings);
     for wing in 1..=wings {
-        let leaves = vec![State { parent: wing as u8, ..State::default() }; random.between(2, 3)];
-        plan.states.extend(leaves);
+        draft.leaves(wing, random.between(2, 3));
     }
-    (0..=wings).for_each(|s| trees::settle(random, &mut plan, s));
-    let last = plan.states.len() - 1;
+    (0..=wings).for_each(|s| trees::settle(random, &mut draft, s));
+    let last = draft.states.len() - 1;
     for leaf in wings + 1..=last {
-        plan.segment(outer(leaf), to_state(random.between(1, last)), random.below(3) as u8);
+        draft.segment(outer(leaf), to_state(random.between(1, last)), random.below(3));
     }
     for _ in 0..random.between(0, 3) {
         let wing = random.between(1, wings);
-        plan.segment(random.pick(&[outer(wing), inner(wing)]), to_state(random.between(1, last)), 3);
+        draft.segment(random.pick(&[outer(wing), inner(wing)]), to_state(random.between(1, last)), 3);
     }
-    plan
+    draft
 }
 
 /// Junctions by which many ways lead on, most of them for a while only.
-fn web(random: &mut Random) -> Plan {
+fn web(random: &mut Random) -> Draft {
     let (states, junctions) = (random.between(3, 9), random.between(3, 8));
-    let mut plan = Plan { states: trees::grow(random, states), events: 2, outputs: 2, ..Plan::default() };
-    plan.junctions = (0..junctions).map(|_| random.below(states) as u8).collect();
-    plan.variables = (0..4).map(|_| any_value(random)).collect();
+    let mut draft = Draft { states: trees::grow(random, states), events: 2, outputs: 2, ..Draft::default() };
+    draft.junctions = (0..junctions).map(|_| random.below(states) as u8).collect();
+    draft.variables = (0..4).map(|_| any_value(random)).collect();
     let wiring = Wiring {
         dead_from: junctions - random.below(2),
         may_loop: random.percent(20),
@@ -80,47 +78,50 @@ fn web(random: &mut Random) -> Plan {
         actions: 40,
     };
     let segments = random.between(12, 40);
-    charts::furnish(random, &mut plan, &wiring, 80, segments);
-    plan
+    charts::furnish(random, &mut draft, &wiring, 80, segments);
+    draft
 }
 
 /// Leaves that go round, each of which computes with values where results leave the range or change sign.
-fn arithmetic(random: &mut Random) -> Plan {
+fn arithmetic(random: &mut Random) -> Draft {
     const VALUES: [i32; 16] =
         [i32::MIN, i32::MIN + 1, i32::MAX, i32::MAX - 1, -1, -1, 0, 1, 2, -2, 7, -7, 46_340, 46_341, -46_341, 1 << 30];
     const OPS: [Instruction; 8] = [ADD, SUBTRACT, MULTIPLY, QUOTIENT, REMAINDER, LESS, EQUAL, NOT];
+    const LOWEST: usize = 0; // a variable with the lowest value
     let leaves = random.between(1, 6);
-    let mut plan = Plan::over_leaves(ONE_OF, leaves);
-    plan.variables = (0..8).map(|_| random.pick(&VALUES)).collect();
+    let mut draft = Draft::over_leaves(ONE_OF, leaves);
+    draft.variables = (0..8).map(|_| random.pick(&VALUES)).collect();
+    draft.variables[LOWEST] = i32::MIN;
     for leaf in 1..=leaves {
+        let corner = random.percent(20); // where quotient and remainder part
         let mut operand = || if random.percent(85) { load(random.below(8)) } else { push(random.below(7) as i16 - 3) };
-        let (lower, top) = (operand(), operand());
+        let (lower, top) = if corner { (load(LOWEST), push(-1)) } else { (operand(), operand()) };
         let (op, result) = (random.pick(&OPS), store(random.below(8)));
         let binary = [lower, top, op, result];
-        let computes = plan.block(if op == NOT { &binary[1..] } else { &binary });
+        let computes = draft.block(if op == NOT { &binary[1..] } else { &binary });
         let condition = Block { count: computes.count - 1, ..computes };
-        plan.states[leaf].blocks[random.pick(&[ENTRY, DURING, EXIT])] = computes;
-        let t = plan.segment(outer(leaf), to_state(leaf % leaves + 1), random.below(3) as u8);
-        plan.segments[t].blocks[random.pick(&[CONDITION_ACTION, TRANSITION_ACTION])] = computes;
+        draft.states[leaf].blocks[random.pick(&[ENTRY, DURING, EXIT])] = computes;
+        draft.segment(outer(leaf), to_state(leaf % leaves + 1), random.below(3));
+        draft.segment_block(random.pick(&[CONDITION_ACTION, TRANSITION_ACTION]), computes);
         if random.percent(40) {
-            plan.segments[t].blocks[CONDITION] = condition;
+            draft.condition(condition);
         }
     }
-    plan
+    draft
 }
 
 /// As deep as a chart may be.
-fn tall(random: &mut Random) -> Plan {
+fn tall(random: &mut Random) -> Draft {
     loop {
-        let mut plan = charts::valid(random);
-        if plan.states.len() + Plan::DEPTH <= Plan::STATES && plan.segments.len() + Plan::DEPTH <= Plan::SEGMENTS {
-            trees::deepen(&mut plan, Plan::DEPTH);
-            for _ in 0..Plan::DEPTH {
-                let deep = plan.states.len() - random.between(1, Plan::DEPTH);
-                let any = random.between(1, plan.states.len() - 1);
-                plan.segment(random.pick(&[outer(any), outer(deep), inner(deep)]), to_state(random.pick(&[any, deep])), 0);
+        let mut draft = charts::valid(random);
+        if draft.states.len() + Draft::DEPTH <= Draft::STATES && draft.segments.len() + Draft::DEPTH <= Draft::SEGMENTS {
+            trees::deepen(&mut draft, Draft::DEPTH);
+            for _ in 0..Draft::DEPTH {
+                let deep = draft.states.len() - random.between(1, Draft::DEPTH);
+                let any = random.between(1, draft.states.len() - 1);
+                draft.segment(random.pick(&[outer(any), outer(deep), inner(deep)]), to_state(random.pick(&[any, deep])), 0);
             }
-            return plan;
+            return draft;
         }
     }
 }

@@ -8,7 +8,6 @@ mod damaged_tables;
 mod disturb;
 pub mod images;
 mod lively;
-pub mod plan;
 pub mod random;
 pub mod sessions;
 mod shapes;

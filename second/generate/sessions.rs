@@ -12,7 +12,7 @@ pub fn any(random: &mut Random) -> Vec<u8> {
     let chart = charts::any(random);
     let mut bytes = with_chart(&chart.bytes);
     for _ in 0..random.below(12) {
-        add_event(random, &mut bytes, chart.plan.events);
+        add_event(random, &mut bytes, chart.draft.events);
     }
     if random.percent(40) {
         damage(random, &mut bytes, chart.bytes.len());
@@ -35,11 +35,11 @@ fn add_event(random: &mut Random, bytes: &mut Vec<u8>, events: u8) {
 
 /// As long as a session may be, or a little shorter or longer; a chart whose steps take their time is not worth it.
 fn long(random: &mut Random) -> Vec<u8> {
-    let plan = charts::valid(random);
-    let mut bytes = with_chart(&plan.bytes());
+    let draft = charts::valid(random);
+    let mut bytes = with_chart(&draft.bytes());
     let length = LONGEST - 3 + random.below(6);
     while bytes.len() < length {
-        add_event(random, &mut bytes, plan.events);
+        add_event(random, &mut bytes, draft.events);
     }
     if random.percent(50) {
         bytes.truncate(length);

@@ -1,6 +1,6 @@
 //! Random trees of states, from the root alone to the limits of count and depth.
-use super::plan::{Plan, State, ALL_OF, LEAF, ONE_OF};
 use super::random::Random;
+use crate::draft::{Draft, State, ALL_OF, LEAF, ONE_OF};
 
 /// Where new states tend to hang.
 #[derive(Clone, Copy)]
@@ -19,11 +19,11 @@ pub fn grow(random: &mut Random, count: usize) -> Vec<State> {
         depths.push(depths[parent] + 1);
         states.push(State { parent: parent as u8, ..State::default() });
     }
-    let mut plan = Plan { states, ..Plan::default() };
+    let mut draft = Draft { states, ..Draft::default() };
     for s in 0..count {
-        settle(random, &mut plan, s);
+        settle(random, &mut draft, s);
     }
-    plan.states
+    draft.states
 }
 
 /// A state that may still have a child; the root always may.
@@ -34,16 +34,16 @@ fn pick_parent(random: &mut Random, lean: Lean, depths: &[usize]) -> usize {
             Lean::Wide if random.percent(50) => 0,
             _ => random.below(depths.len()),
         };
-        if depths[parent] < Plan::DEPTH {
+        if depths[parent] < Draft::DEPTH {
             return parent;
         }
     }
 }
 
 /// The kind that the children allow, and what goes with it.
-pub fn settle(random: &mut Random, plan: &mut Plan, s: usize) {
-    let children = plan.children(s);
-    let state = &mut plan.states[s];
+pub fn settle(random: &mut Random, draft: &mut Draft, s: usize) {
+    let children = draft.children(s);
+    let state = &mut draft.states[s];
     if children.is_empty() {
         state.kind = LEAF;
     } else if random.percent(35) {
@@ -56,14 +56,14 @@ pub fn settle(random: &mut Random, plan: &mut Plan, s: usize) {
 }
 
 /// A chain of new states from the root down to this depth; what is there already stays as it is.
-pub fn deepen(plan: &mut Plan, depth: usize) {
-    if plan.states[0].kind == LEAF {
-        plan.states[0].kind = ALL_OF;
+pub fn deepen(draft: &mut Draft, depth: usize) {
+    if draft.states[0].kind == LEAF {
+        draft.states[0].kind = ALL_OF;
     }
-    let first = plan.states.len();
+    let first = draft.states.len();
     for level in 1..=depth {
         let parent = if level == 1 { 0 } else { first + level - 2 };
         let kind = if level == depth { LEAF } else { ALL_OF };
-        plan.states.push(State { parent: parent as u8, kind, ..State::default() });
+        draft.state(parent, kind, 0);
     }
 }

@@ -1,22 +1,21 @@
 //! Charts for the bound call: bounds just under and over the limit, and weights beyond any number of 64 bits.
-use super::plan::*;
 use super::random::Random;
+use crate::draft::*;
 
 /// A ladder of junctions, two segments from each to the next, weighs twice as much at each step; segments to its steps, the
 /// heaviest first, and at last such to a state make up any sum.
-pub fn exact(random: &mut Random) -> Plan {
+pub fn exact(random: &mut Random) -> Draft {
     const LIMIT: usize = 1_000_000;
     let wanted = random.pick(&[LIMIT - 1, LIMIT, LIMIT, LIMIT + 1, LIMIT + 1, 2 * LIMIT]);
-    let mut plan = Plan::over_leaves(ONE_OF, random.between(1, 5));
-    let states = plan.states.len();
+    let mut draft = Draft::over_leaves(ONE_OF, random.between(1, 5));
+    let states = draft.states.len();
     let steps = random.between(14, 17);
-    plan.junctions = vec![0; steps];
+    draft.junctions = vec![0; steps];
     // what a segment to each step weighs
     let mut weights = vec![2];
-    plan.segment(from_junction(0), to_state(1), 0);
+    draft.segment(from_junction(0), to_state(1), 0);
     for j in 1..steps {
-        plan.segment(from_junction(j), to_junction(j - 1), 0);
-        plan.segment(from_junction(j), to_junction(j - 1), 0);
+        draft.segment(from_junction(j), to_junction(j - 1), 0).segment(from_junction(j), to_junction(j - 1), 0);
         weights.push(1 + 2 * weights[j - 1]);
     }
     // each state is run once, and G is two for each state
@@ -24,24 +23,24 @@ pub fn exact(random: &mut Random) -> Plan {
     while rest > 0 {
         let place = if random.percent(50) { outer(random.between(1, states - 1)) } else { inner(random.between(1, states - 1)) };
         let step = (0..steps).rev().find(|&j| weights[j] <= rest);
-        plan.segment(place, step.map_or(to_state(1), to_junction), random.below(4) as u8);
+        draft.segment(place, step.map_or(to_state(1), to_junction), random.below(4));
         rest -= step.map_or(1, |j| weights[j]);
     }
-    plan
+    draft
 }
 
 /// A ladder with up to four segments at each step: as heavy as a chart can be.
-pub fn huge(random: &mut Random) -> Plan {
-    let mut plan = Plan::over_leaves(ONE_OF, 1);
-    let (steps, width) = (random.between(20, Plan::JUNCTIONS), random.between(2, 4));
-    plan.junctions = vec![0; steps];
+pub fn huge(random: &mut Random) -> Draft {
+    let mut draft = Draft::over_leaves(ONE_OF, 1);
+    let (steps, width) = (random.between(20, Draft::JUNCTIONS), random.between(2, 4));
+    draft.junctions = vec![0; steps];
     for j in 1..steps {
         for _ in 0..width {
-            plan.segment(from_junction(j), to_junction(j - 1), 1);
+            draft.segment(from_junction(j), to_junction(j - 1), 1);
         }
     }
     if random.percent(70) {
-        plan.segment(outer(1), to_junction(steps - 1), 2);
+        draft.segment(outer(1), to_junction(steps - 1), 2);
     }
-    plan
+    draft
 }

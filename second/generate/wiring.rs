@@ -1,7 +1,7 @@
 //! Random segments between states and junctions, with their events and blocks.
 use super::code::Pool;
-use super::plan::*;
 use super::random::Random;
+use crate::draft::*;
 
 /// How the segments of one chart tend to be; shares are of a hundred.
 pub struct Wiring {
@@ -30,18 +30,18 @@ impl Wiring {
     }
 
     /// Up to so many segments: a chart of one state and no live junction has none.
-    pub fn add_segments(&self, random: &mut Random, plan: &mut Plan, pool: &Pool, wanted: usize) {
+    pub fn add_segments(&self, random: &mut Random, draft: &mut Draft, pool: &Pool, wanted: usize) {
         for _ in 0..wanted {
-            let Some(source) = self.source(random, plan) else { return };
-            let Some(destination) = self.destination(random, plan, source) else { continue };
-            let event = if random.percent(self.any_event) { 0 } else { random.between(1, plan.events as usize) };
-            let t = plan.segment(source, destination, event as u8);
-            plan.segments[t].blocks = self.blocks(random, pool);
+            let Some(source) = self.source(random, draft) else { return };
+            let Some(destination) = self.destination(random, draft, source) else { continue };
+            let event = if random.percent(self.any_event) { 0 } else { random.between(1, draft.events as usize) };
+            let blocks = self.blocks(random, pool);
+            draft.segments.push(Segment { source, destination, event: event as u8, blocks });
         }
     }
 
-    fn source(&self, random: &mut Random, plan: &Plan) -> Option<End> {
-        let states = plan.states.len();
+    fn source(&self, random: &mut Random, draft: &Draft) -> Option<End> {
+        let states = draft.states.len();
         let junction = self.dead_from > 0 && (states == 1 || random.percent(self.from_junctions));
         if junction {
             Some(from_junction(random.below(self.dead_from)))
@@ -54,8 +54,8 @@ impl Wiring {
         }
     }
 
-    fn destination(&self, random: &mut Random, plan: &Plan, source: End) -> Option<End> {
-        let (junctions, states) = (plan.junctions.len(), plan.states.len());
+    fn destination(&self, random: &mut Random, draft: &Draft, source: End) -> Option<End> {
+        let (junctions, states) = (draft.junctions.len(), draft.states.len());
         let from = source.1 as usize;
         // without loops, segments between junctions lead to greater numbers only
         let first = if source == from_junction(from) && !self.may_loop { from + 1 } else { 0 };
@@ -66,7 +66,7 @@ impl Wiring {
         } else if source == from_junction(from) {
             Some(to_state(random.between(1, states - 1)))
         } else {
-            Some(to_state(relative(random, plan, from)))
+            Some(to_state(relative(random, draft, from)))
         }
     }
 
@@ -86,18 +86,18 @@ impl Wiring {
 }
 
 /// A state other than the root: the state itself, one above or below it, or any.
-fn relative(random: &mut Random, plan: &Plan, state: usize) -> usize {
-    let parent = plan.states[state].parent as usize;
-    let children = plan.children(state);
+fn relative(random: &mut Random, draft: &Draft, state: usize) -> usize {
+    let parent = draft.states[state].parent as usize;
+    let children = draft.children(state);
     match random.below(100) {
         0..=7 => state,
         8..=17 if parent != 0 => parent,
-        18..=22 if parent != 0 => relative(random, plan, parent),
+        18..=22 if parent != 0 => relative(random, draft, parent),
         23..=32 if !children.is_empty() => random.pick(&children),
         33..=37 if !children.is_empty() => {
             let child = random.pick(&children);
-            relative(random, plan, child)
+            relative(random, draft, child)
         }
-        _ => random.between(1, plan.states.len() - 1),
+        _ => random.between(1, draft.states.len() - 1),
     }
 }

@@ -78,25 +78,23 @@ fn list_weight(chart: &Chart, weights: &[Option<u64>], list: &[usize], rules: Ru
 
 #[cfg(test)]
 mod tests {
-    use super::super::draft::*;
+    use super::super::trial::*;
+    use crate::draft::*;
 
     #[test]
     fn shared_junction_counts_each_time() {
-        let chart = two_leaves()
-            .junction(0)
-            .junction(0)
-            .segment(End::Outer(1), End::Junction(0), 1)
-            .segment(End::Junction(0), End::Junction(1), 0)
-            .segment(End::Junction(0), End::Junction(1), 0)
-            .segment(End::Junction(1), End::Outer(2), 0);
+        let mut chart = two_leaves();
+        chart.junction(0).junction(0).segment(outer(1), to_junction(0), 1).segment(from_junction(1), to_state(2), 0);
+        twice(&mut chart, from_junction(0), to_junction(1));
         assert_eq!(bound(&chart), (0, 21 + 5));
     }
 
     #[test]
     fn loops_and_sends_are_refused() {
-        let unreached_loop = two_leaves().junction(0).segment(End::Junction(0), End::Junction(0), 0);
+        let mut unreached_loop = two_leaves();
+        unreached_loop.junction(0).segment(from_junction(0), to_junction(0), 0);
         assert_eq!(bound(&unreached_loop), (22, 0));
-        assert_eq!(bound(&unreached_loop.during(&[send(1, 0)])), (21, 0));
+        assert_eq!(bound(unreached_loop.during(&[send(1, 0)])), (21, 0));
     }
 
     #[test]
@@ -108,11 +106,11 @@ mod tests {
     /// 60 junctions, each with two segments to the next: 2^60 paths and more, none of which is walked.
     #[test]
     fn exponential_weight_is_refused_at_once() {
-        let mut chart = two_leaves().segment(End::Outer(1), End::Junction(0), 0);
+        let mut chart = two_leaves();
+        chart.segment(outer(1), to_junction(0), 0);
         for number in 0..60 {
-            chart = chart.junction(0);
-            let next = if number == 59 { End::Outer(2) } else { End::Junction(number + 1) };
-            chart = chart.segment(End::Junction(number), next, 0).segment(End::Junction(number), next, 0);
+            let next = if number == 59 { to_state(2) } else { to_junction(number + 1) };
+            twice(chart.junction(0), from_junction(number), next);
         }
         assert_eq!(bound(&chart), (23, 0));
     }

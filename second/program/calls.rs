@@ -22,6 +22,9 @@ pub struct Calls {
     pub fault: Option<Fault>,
 }
 
+/// The calls by the paper's rules.
+pub const PAPER: Calls = Calls { fault: None };
+
 impl Calls {
     /// Refusal + 256 x items + 131,072 x units.
     pub fn step(&self, chart: &[u8], board: &mut [u8], trace: &mut [u8], lift: u32, event: u32, allowance: u32) -> u64 {
@@ -100,11 +103,12 @@ fn part_of_lift(board: &mut [u8], lift: u32, rules: Rules) -> Result<&mut [u8], 
 
 #[cfg(test)]
 mod tests {
-    use super::super::draft::*;
+    use super::super::trial::*;
+    use crate::draft::*;
 
     #[test]
     fn units_of_the_second_step_of_chart_a() {
-        let mut lift = Lift::started(&chart_a());
+        let mut lift = Lift::started(&Draft::chart_a());
         let before = lift.board.clone();
         assert_eq!(lift.step(1, 5), (16, 0, vec![]));
         assert_eq!(lift.step(1, 0), (16, 0, vec![]));
@@ -114,7 +118,7 @@ mod tests {
 
     #[test]
     fn events_and_allowances_of_chart_a() {
-        let mut lift = Lift::fresh(&chart_a());
+        let mut lift = Lift::fresh(&Draft::chart_a());
         assert_eq!(lift.step(0, ENOUGH).0, 14);
         assert_eq!(lift.step(3, 1_000_001).0, 14);
         assert_eq!(lift.step(1, 1_000_001).0, 15);
@@ -123,7 +127,7 @@ mod tests {
 
     #[test]
     fn trace_room_of_chart_a() {
-        let mut lift = Lift::started(&chart_a());
+        let mut lift = Lift::started(&Draft::chart_a());
         lift.trace = vec![0xEE; 23];
         assert_eq!(lift.step(1, ENOUGH).0, 20);
         assert_eq!(lift.trace, vec![0xEE; 23]);
@@ -133,7 +137,7 @@ mod tests {
 
     #[test]
     fn only_the_lift_named_is_written() {
-        let chart = chart_a().bytes();
+        let chart = Draft::chart_a().bytes();
         let mut board = vec![0xEE; 3 * 202];
         assert_eq!(PAPER.fresh(&chart, &mut board, 1), 0);
         assert_eq!(board[202..204], *b"IM");

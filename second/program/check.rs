@@ -138,8 +138,8 @@ fn barred(op: Op, role: Role, rules: Rules) -> bool {
 
 #[cfg(test)]
 mod tests {
-    use super::super::draft::*;
     use super::*;
+    use crate::draft::*;
 
     fn refusal(chart: &[u8]) -> u64 {
         accept(chart, Rules { fault: None }).map_or_else(Refusal::number, |_| 0)
@@ -147,14 +147,14 @@ mod tests {
 
     /// Chart A with one byte set: 12 bytes of CH, states at 12, 28 and 44, the segment at 60, the instruction at 78.
     fn changed(at: usize, byte: u8) -> u64 {
-        let mut chart = chart_a().bytes();
+        let mut chart = Draft::chart_a().bytes();
         chart[at] = byte;
         refusal(&chart)
     }
 
     #[test]
     fn lengths_of_chart_a() {
-        let chart = chart_a().bytes();
+        let chart = Draft::chart_a().bytes();
         assert_eq!(chart.len(), 84);
         assert_eq!(refusal(&chart), 0);
         assert_eq!(refusal(&chart[..83]), 4);
@@ -185,8 +185,8 @@ mod tests {
 
     #[test]
     fn stack_and_barred_ops() {
-        let with_entry = |block: &[Line]| refusal(&chart_a().state(0, LEAF, 0).entry(block).bytes());
-        let with_condition = |block: &[Line]| refusal(&chart_a().condition(block).bytes());
+        let with_entry = |code: &[Instruction]| refusal(&Draft::chart_a().leaves(0, 1).entry(code).bytes());
+        let with_condition = |code: &[Instruction]| refusal(&Draft::chart_a().condition(code).bytes());
         let sum_of = |values: usize| [vec![push(1); values], vec![ADD; values - 1]].concat();
         assert_eq!(with_entry(&[push(1)]), 10);
         assert_eq!(with_entry(&[ADD]), 10);
@@ -200,9 +200,12 @@ mod tests {
 
     #[test]
     fn depth_is_at_most_eight() {
-        let chain = |depth: u8| {
-            let above = (0..depth).fold(Draft::new(1, 0), |draft, number| draft.state(number.saturating_sub(1), ALL_OF, 0));
-            refusal(&above.state(depth - 1, LEAF, 0).bytes())
+        let chain = |depth: usize| {
+            let mut chart = Draft::new(1, 0);
+            for number in 0..depth {
+                chart.state(number.saturating_sub(1), ALL_OF, 0);
+            }
+            refusal(&chart.leaves(depth - 1, 1).bytes())
         };
         assert_eq!(chain(8), 0);
         assert_eq!(chain(9), 6);

@@ -182,9 +182,9 @@ impl Rules {
 
 #[cfg(test)]
 mod tests {
-    use super::super::calls::Calls;
-    use super::super::draft::*;
+    use super::super::trial::*;
     use super::{Fault, ALL};
+    use crate::draft::*;
 
     /// A fault's name is the snake case of its variant; a slip in one of them would give two names to one fault.
     #[test]
@@ -205,13 +205,13 @@ mod tests {
         assert_ne!(answer(PAPER), answer(Calls { fault: Some(fault) }), "{fault:?}");
     }
 
-    fn assert_shown_by_bound(fault: Fault, chart: Draft) {
+    fn assert_shown_by_bound(fault: Fault, chart: &Draft) {
         assert_shown(fault, |calls| calls.bound(&chart.bytes()));
     }
 
-    fn assert_shown_by_second_step(fault: Fault, chart: Draft, trace_bytes: usize, allowance: u32) {
+    fn assert_shown_by_second_step(fault: Fault, chart: &Draft, trace_bytes: usize, allowance: u32) {
         assert_shown(fault, |calls| {
-            let mut lift = Lift::started(&chart);
+            let mut lift = Lift::started(chart);
             lift.trace.resize(trace_bytes, 0);
             lift.calls = calls;
             lift.step(1, allowance)
@@ -222,40 +222,35 @@ mod tests {
     #[test]
     fn rare_faults_of_the_checker_and_the_bound() {
         let sum_of_17 = [vec![push(1); 17], vec![ADD; 16]].concat();
-        assert_shown_by_bound(Fault::SeventeenStackPlaces, chart_a().condition(&sum_of_17));
-        assert_shown_by_bound(Fault::RaiseInConditionAllowed, chart_a().condition(&[push(1), raise(1)]));
-        assert_shown_by_bound(Fault::SixtyFiveJunctions, (0..65).fold(chart_a(), |chart, _| chart.junction(0)));
-        assert_shown_by_bound(Fault::BoundLimitRefused, chart_of_bound(1_000_000));
-        assert_shown(Fault::LiftSixtyFourAllowed, |calls| calls.fresh(&chart_a().bytes(), &mut [0; 65 * 202], 64));
+        assert_shown_by_bound(Fault::SeventeenStackPlaces, Draft::chart_a().condition(sum_of_17));
+        assert_shown_by_bound(Fault::RaiseInConditionAllowed, Draft::chart_a().condition(&[push(1), raise(1)]));
+        assert_shown_by_bound(Fault::SixtyFiveJunctions, &Draft { junctions: vec![0; 65], ..Draft::chart_a() });
+        assert_shown_by_bound(Fault::BoundLimitRefused, &chart_of_bound(1_000_000));
+        assert_shown(Fault::LiftSixtyFourAllowed, |calls| calls.fresh(&Draft::chart_a().bytes(), &mut [0; 65 * 202], 64));
     }
 
     #[test]
     fn rare_faults_of_the_step() {
-        assert_shown_by_second_step(Fault::NinthSendAllowed, self_sender(9), 1024, ENOUGH);
-        assert_shown_by_second_step(Fault::OwnerUntested, abandoned_path(), 1024, ENOUGH);
+        assert_shown_by_second_step(Fault::NinthSendAllowed, &self_sender(9), 1024, ENOUGH);
+        assert_shown_by_second_step(Fault::OwnerUntested, &abandoned_path(), 1024, ENOUGH);
 
         // Under 8 open sends, the next one goes to state 2, which is inactive.
-        let to_inactive = self_sender(8).segment(End::Inner(1), End::Junction(0), 0).condition_action(&[send(1, 2)]);
-        assert_shown_by_second_step(Fault::SendLimitBeforeActivity, to_inactive, 1024, ENOUGH);
+        let mut to_inactive = self_sender(8);
+        to_inactive.segment(inner(1), to_junction(0), 0).condition_action(&[send(1, 2)]);
+        assert_shown_by_second_step(Fault::SendLimitBeforeActivity, &to_inactive, 1024, ENOUGH);
 
         // The leaving of 2, 6 and 7 wants a sixth unit and then a third item; of both there is one too few.
-        let leaving = nested().segment(End::Outer(2), End::Outer(1), 1);
-        assert_shown_by_second_step(Fault::LeavingPaidAfterChildren, leaving, 8, 5);
+        assert_shown_by_second_step(Fault::LeavingPaidAfterChildren, nested().segment(outer(2), to_state(1), 1), 8, 5);
 
         // Two during points and 255 outputs.
-        let raising = Draft::new(1, 1).state(0, ONE_OF, 1).state(0, LEAF, 0).during(&[raise(1); 255]);
-        assert_shown_by_second_step(Fault::RoomForOneMore, raising, 1028, ENOUGH);
+        let mut raising = Draft::over_leaves(ONE_OF, 1);
+        assert_shown_by_second_step(Fault::RoomForOneMore, raising.during(&[raise(1); 255]), 1028, ENOUGH);
 
         // One segment to junction 0, 127 from there to itself, and one to the dead end.
-        let long_path = two_leaves()
-            .variable(0)
-            .junction(0)
-            .junction(0)
-            .segment(End::Outer(1), End::Junction(0), 0)
-            .segment(End::Junction(0), End::Junction(0), 0)
-            .condition(&[load(0), push(127), LESS])
-            .condition_action(&[load(0), push(1), ADD, store(0)])
-            .segment(End::Junction(0), End::Junction(1), 0);
-        assert_shown_by_second_step(Fault::PathOneMoreAllowed, long_path, 1024, ENOUGH);
+        let mut long_path = three_leaves();
+        long_path.junction(0).junction(0).segment(outer(1), to_junction(0), 0);
+        long_path.segment(from_junction(0), to_junction(0), 0).condition(&[load(0), push(127), LESS]);
+        long_path.condition_action(&[load(0), push(1), ADD, store(0)]).segment(from_junction(0), to_junction(1), 0);
+        assert_shown_by_second_step(Fault::PathOneMoreAllowed, &long_path, 1024, ENOUGH);
     }
 }

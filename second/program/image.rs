@@ -112,12 +112,14 @@ fn recorded(byte: usize) -> Option<usize> {
 
 #[cfg(test)]
 mod tests {
-    use super::super::draft::*;
+    use super::super::trial::*;
+    use crate::draft::*;
 
     /// A one-of root with history over leaf 1 and all-of 2, whose leaves are 3 and 4; one variable.
     fn chart() -> Draft {
-        let root = Draft::new(1, 0).variable(7).state(0, ONE_OF, 1).history();
-        root.state(0, LEAF, 0).state(0, ALL_OF, 0).state(2, LEAF, 0).state(2, LEAF, 0)
+        let mut chart = Draft::new(1, 0);
+        chart.variable(7).state(0, ONE_OF, 1).history().leaves(0, 1).state(0, ALL_OF, 0).leaves(2, 2);
+        chart
     }
 
     fn refusal(active: u8, root_history: u8) -> u64 {

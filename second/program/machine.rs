@@ -358,20 +358,21 @@ fn settled(outcome: Result<(), Stop>) -> Result<(), Refusal> {
 
 #[cfg(test)]
 mod tests {
-    use super::super::draft::*;
+    use super::super::trial::*;
+    use crate::draft::*;
 
     /// The first segment sets x to 1 and leads to junction 0, the second to state 3.
     fn two_segments() -> Draft {
-        three_leaves().junction(0).segment(End::Outer(1), End::Junction(0), 1).condition_action(&[push(1), store(0)]).segment(
-            End::Outer(1),
-            End::Outer(3),
-            1,
-        )
+        let mut chart = three_leaves();
+        chart.junction(0).segment(outer(1), to_junction(0), 1).condition_action(&[push(1), store(0)]);
+        chart.segment(outer(1), to_state(3), 1);
+        chart
     }
 
     #[test]
     fn a_failed_path_keeps_its_condition_actions() {
-        let onward = two_segments().segment(End::Junction(0), End::Outer(2), 1).condition(&[load(0), push(2), EQUAL]);
+        let mut onward = two_segments();
+        onward.segment(from_junction(0), to_state(2), 1).condition(&[load(0), push(2), EQUAL]);
         let mut lift = Lift::started(&onward);
         // Units: two runs, three segments tried, two and three instructions, one leaving, one entering.
         assert_eq!(lift.step(1, ENOUGH), (0, 12, vec![0x30000, 0x40000, 0x40001, 0x20001, 0x50001, 0x10003]));
@@ -387,7 +388,7 @@ mod tests {
 
     #[test]
     fn an_outer_self_transition_leaves_and_enters() {
-        let mut lift = Lift::started(&three_leaves().segment(End::Outer(1), End::Outer(1), 1));
+        let mut lift = Lift::started(three_leaves().segment(outer(1), to_state(1), 1));
         assert_eq!(lift.step(1, ENOUGH), (0, 5, vec![0x30000, 0x40000, 0x20001, 0x50000, 0x10001]));
     }
 
@@ -402,8 +403,7 @@ mod tests {
 
     #[test]
     fn a_sent_child_is_run_again_by_its_turn() {
-        let chart = Draft::new(1, 0).state(0, ALL_OF, 0).state(0, LEAF, 0).during(&[send(1, 2)]).state(0, LEAF, 0);
-        let mut lift = Lift::started(&chart);
+        let mut lift = Lift::started(Draft::new(1, 0).state(0, ALL_OF, 0).leaves(0, 1).during(&[send(1, 2)]).leaves(0, 1));
         assert_eq!(lift.step(1, ENOUGH), (0, 5, vec![0x30000, 0x30001, 0x30002, 0x30002]));
     }
 
@@ -418,8 +418,8 @@ mod tests {
     #[test]
     fn quotient_and_remainder_of_the_lowest_value_by_minus_one() {
         let dividing = |operator| {
-            let root = Draft::new(1, 0).variable(i32::MIN).state(0, ONE_OF, 1);
-            Lift::started(&root.state(0, LEAF, 0).during(&[load(0), push(-1), operator, store(0)]))
+            let code = [load(0), push(-1), operator, store(0)];
+            Lift::started(Draft::over_leaves(ONE_OF, 1).variable(i32::MIN).during(&code))
         };
         assert_eq!(dividing(QUOTIENT).step(1, ENOUGH).0, 17);
         let mut lift = dividing(REMAINDER);
@@ -429,19 +429,17 @@ mod tests {
 
     #[test]
     fn a_junction_looping_on_itself_is_refused() {
-        let chart =
-            three_leaves().junction(0).segment(End::Outer(1), End::Junction(0), 1).segment(End::Junction(0), End::Junction(0), 0);
+        let mut chart = three_leaves();
+        chart.junction(0).segment(outer(1), to_junction(0), 1).segment(from_junction(0), to_junction(0), 0);
         assert_eq!(Lift::started(&chart).step(1, ENOUGH).0, 19);
         assert_eq!(bound(&chart), (22, 0));
     }
 
     #[test]
     fn leaving_is_highest_first_and_history_is_entered_again() {
-        let chart = nested()
-            .segment(End::Outer(4), End::Outer(5), 1)
-            .segment(End::Outer(2), End::Outer(1), 2)
-            .segment(End::Outer(1), End::Outer(7), 2)
-            .transition_action(&[raise(1)]);
+        let mut chart = nested();
+        chart.segment(outer(4), to_state(5), 1).segment(outer(2), to_state(1), 2);
+        chart.segment(outer(1), to_state(7), 2).transition_action(&[raise(1)]);
         let mut lift = Lift::started(&chart);
         assert_eq!(lift.step(1, ENOUGH).0, 0);
         assert_eq!((lift.active(), lift.history(3)), (0b1110_1101, 4));
@@ -455,15 +453,13 @@ mod tests {
 
     #[test]
     fn a_junctions_parent_widens_the_arena() {
-        let through = |parent| {
-            let chart = nested().junction(parent);
-            chart.segment(End::Outer(4), End::Junction(0), 1).segment(End::Junction(0), End::Outer(5), 1)
-        };
-        let left_and_entered = |chart| {
+        let left_and_entered = |parent| {
+            let mut chart = nested();
+            chart.junction(parent).segment(outer(4), to_junction(0), 1).segment(from_junction(0), to_state(5), 1);
             let items = Lift::started(&chart).step(1, ENOUGH).2;
             items.into_iter().filter(|item| matches!(item >> 16, 1 | 2)).collect::<Vec<_>>()
         };
-        assert_eq!(left_and_entered(through(4)), [0x20004, 0x10005]);
-        assert_eq!(left_and_entered(through(2)), [0x20007, 0x20006, 0x20004, 0x20003, 0x10003, 0x10005, 0x10006, 0x10007]);
+        assert_eq!(left_and_entered(4), [0x20004, 0x10005]);
+        assert_eq!(left_and_entered(2), [0x20007, 0x20006, 0x20004, 0x20003, 0x10003, 0x10005, 0x10006, 0x10007]);
     }
 }

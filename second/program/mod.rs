@@ -4,8 +4,6 @@ mod bound;
 pub mod calls;
 mod chart;
 mod check;
-#[cfg(test)]
-mod draft;
 pub mod faults;
 mod image;
 mod machine;
@@ -15,3 +13,5 @@ mod refusal;
 mod session;
 mod tables;
 mod trace;
+#[cfg(test)]
+mod trial;

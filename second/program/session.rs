@@ -77,7 +77,8 @@ fn event_line(answer: u64, trace: &[u8]) -> String {
 
 #[cfg(test)]
 mod tests {
-    use super::super::draft::*;
+    use super::super::trial::*;
+    use crate::draft::*;
 
     const LINES_OF_CHART_A: &str = "0 25\n\
         0 2 2 65536 65537\n\
@@ -85,7 +86,7 @@ mod tests {
         0 2 2 196608 196610\n";
 
     fn session_of_chart_a(events: &[u8]) -> Vec<u8> {
-        [b"SE\x54\x00".as_slice(), &chart_a().bytes(), events].concat()
+        [b"SE\x54\x00".as_slice(), &Draft::chart_a().bytes(), events].concat()
     }
 
     fn answer(input: &[u8]) -> String {

@@ -1,4 +1,5 @@
-//! A chart to be, with a name for each field, and its bytes. Nothing here keeps it from being a wrong chart.
+//! A chart to be: its fields, short ways to write it, and its bytes. Nothing here keeps it from being a wrong chart.
+#![allow(dead_code)] // the generator, the tests and the benchmarks each use a part of it
 
 pub const LEAF: u8 = 0;
 pub const ONE_OF: u8 = 1;
@@ -16,6 +17,17 @@ pub const TRANSITION_ACTION: usize = 2;
 pub struct Block {
     pub start: u16,
     pub count: u8,
+}
+
+impl Block {
+    pub fn new(start: usize, count: usize) -> Block {
+        Block { start: start as u16, count: count as u8 }
+    }
+
+    fn bytes(self) -> [u8; 3] {
+        let [low, high] = self.start.to_le_bytes();
+        [low, high, self.count]
+    }
 }
 
 #[derive(Clone, Default)]
@@ -90,6 +102,23 @@ pub fn send(event: usize, state: usize) -> Instruction {
     (12, event as u8, state as i16)
 }
 
+/// What a state or a segment is given to do: instructions of its own, or a block that others may have as well.
+pub trait Code {
+    fn block_in(self, draft: &mut Draft) -> Block;
+}
+
+impl<C: AsRef<[Instruction]>> Code for C {
+    fn block_in(self, draft: &mut Draft) -> Block {
+        draft.block(self.as_ref())
+    }
+}
+
+impl Code for Block {
+    fn block_in(self, _: &mut Draft) -> Block {
+        self
+    }
+}
+
 /// Where a table stands in the chart's bytes, the length of its records, and which bytes of a record have to be zero.
 #[derive(Clone, Copy)]
 pub struct Table {
@@ -100,7 +129,7 @@ pub struct Table {
 }
 
 #[derive(Clone, Default)]
-pub struct Plan {
+pub struct Draft {
     pub states: Vec<State>,
     pub junctions: Vec<u8>,
     pub segments: Vec<Segment>,
@@ -110,7 +139,7 @@ pub struct Plan {
     pub code: Vec<Instruction>,
 }
 
-impl Plan {
+impl Draft {
     pub const HEADER: usize = 12;
     pub const STATE: usize = 16;
     pub const STATES: usize = 64;
@@ -124,27 +153,105 @@ impl Plan {
     pub const BLOCK: usize = 255;
     pub const STACK: usize = 16;
 
+    pub fn new(events: usize, outputs: usize) -> Draft {
+        Draft { events: events as u8, outputs: outputs as u8, ..Draft::default() }
+    }
+
     /// A root of this kind over so many leaves, the first of them the initial one.
-    pub fn over_leaves(kind: u8, leaves: usize) -> Plan {
-        let root = State { kind, initial: (kind == ONE_OF) as u8, ..State::default() };
-        let mut states = vec![State::default(); leaves + 1];
-        states[0] = root;
-        Plan { states, events: 3, outputs: 2, ..Plan::default() }
+    pub fn over_leaves(kind: u8, leaves: usize) -> Draft {
+        let mut draft = Draft::new(3, 2);
+        draft.state(0, kind, (kind == ONE_OF) as usize).leaves(0, leaves);
+        draft
+    }
+
+    /// The paper's chart A.
+    pub fn chart_a() -> Draft {
+        let mut draft = Draft::new(2, 1);
+        draft.state(0, ONE_OF, 1).leaves(0, 2).entry(&[raise(1)]).segment(outer(1), to_state(2), 1);
+        draft
     }
 
     pub fn children(&self, state: usize) -> Vec<usize> {
         (1..self.states.len()).filter(|&s| self.states[s].parent as usize == state).collect()
     }
 
-    /// The number of the new segment.
-    pub fn segment(&mut self, source: End, destination: End, event: u8) -> usize {
-        self.segments.push(Segment { source, destination, event, ..Segment::default() });
-        self.segments.len() - 1
+    pub fn state(&mut self, parent: usize, kind: u8, initial: usize) -> &mut Draft {
+        self.states.push(State { parent: parent as u8, kind, initial: initial as u8, ..State::default() });
+        self
+    }
+
+    pub fn leaves(&mut self, parent: usize, count: usize) -> &mut Draft {
+        for _ in 0..count {
+            self.state(parent, LEAF, 0);
+        }
+        self
+    }
+
+    /// The last state keeps history.
+    pub fn history(&mut self) -> &mut Draft {
+        self.last_state().history = 1;
+        self
+    }
+
+    pub fn entry(&mut self, code: impl Code) -> &mut Draft {
+        self.state_block(ENTRY, code)
+    }
+
+    pub fn during(&mut self, code: impl Code) -> &mut Draft {
+        self.state_block(DURING, code)
+    }
+
+    pub fn exit(&mut self, code: impl Code) -> &mut Draft {
+        self.state_block(EXIT, code)
+    }
+
+    fn state_block(&mut self, place: usize, code: impl Code) -> &mut Draft {
+        let block = code.block_in(self);
+        self.last_state().blocks[place] = block;
+        self
+    }
+
+    fn last_state(&mut self) -> &mut State {
+        self.states.last_mut().expect("a state comes first")
+    }
+
+    pub fn junction(&mut self, parent: usize) -> &mut Draft {
+        self.junctions.push(parent as u8);
+        self
+    }
+
+    pub fn segment(&mut self, source: End, destination: End, event: usize) -> &mut Draft {
+        self.segments.push(Segment { source, destination, event: event as u8, ..Segment::default() });
+        self
+    }
+
+    pub fn condition(&mut self, code: impl Code) -> &mut Draft {
+        self.segment_block(CONDITION, code)
+    }
+
+    pub fn condition_action(&mut self, code: impl Code) -> &mut Draft {
+        self.segment_block(CONDITION_ACTION, code)
+    }
+
+    pub fn transition_action(&mut self, code: impl Code) -> &mut Draft {
+        self.segment_block(TRANSITION_ACTION, code)
+    }
+
+    /// What the last segment does at one of its three places.
+    pub fn segment_block(&mut self, place: usize, code: impl Code) -> &mut Draft {
+        let block = code.block_in(self);
+        self.segments.last_mut().expect("a segment comes first").blocks[place] = block;
+        self
+    }
+
+    pub fn variable(&mut self, initial: i32) -> &mut Draft {
+        self.variables.push(initial);
+        self
     }
 
     /// New instructions, and the block that they are.
     pub fn block(&mut self, code: &[Instruction]) -> Block {
-        let block = Block { start: self.code.len() as u16, count: code.len() as u8 };
+        let block = Block::new(self.code.len(), code.len());
         self.code.extend(code);
         block
     }
@@ -156,14 +263,14 @@ impl Plan {
         bytes.extend((self.code.len() as u16).to_le_bytes());
         for state in &self.states {
             bytes.extend([b'S', b'T', state.parent, state.kind, state.initial, state.history]);
-            state.blocks.iter().for_each(|block| bytes.extend(block_bytes(block)));
+            bytes.extend(state.blocks.map(Block::bytes).concat());
             bytes.push(0);
         }
         self.junctions.iter().for_each(|&parent| bytes.extend([b'J', b'N', parent, 0]));
         for segment in &self.segments {
             let (source, destination) = (segment.source, segment.destination);
             bytes.extend([b'T', b'R', source.0, source.1, destination.0, destination.1, segment.event, 0, 0]);
-            segment.blocks.iter().for_each(|block| bytes.extend(block_bytes(block)));
+            bytes.extend(segment.blocks.map(Block::bytes).concat());
         }
         for value in &self.variables {
             bytes.extend(b"VA");
@@ -179,13 +286,13 @@ impl Plan {
     /// The tables behind the header, without those that have no records.
     pub fn tables(&self) -> Vec<Table> {
         let tables: [(usize, usize, &[usize]); 5] = [
-            (self.states.len(), Plan::STATE, &[15]),
+            (self.states.len(), Draft::STATE, &[15]),
             (self.junctions.len(), 4, &[3]),
             (self.segments.len(), 18, &[7, 8]),
             (self.variables.len(), 6, &[]),
             (self.code.len(), 6, &[]),
         ];
-        let mut at = Plan::HEADER;
+        let mut at = Draft::HEADER;
         let mut filled = Vec::new();
         for (count, length, zeros) in tables.into_iter().filter(|table| table.0 > 0) {
             filled.push(Table { at, count, length, zeros });
@@ -193,9 +300,4 @@ impl Plan {
         }
         filled
     }
-}
-
-fn block_bytes(block: &Block) -> [u8; 3] {
-    let [low, high] = block.start.to_le_bytes();
-    [low, high, block.count]
 }
