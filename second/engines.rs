@@ -68,26 +68,28 @@ impl Engine for Plain {
     }
 }
 
-/// A slice to lend, out of the middle of more bytes.
+/// A slice to lend, out of the middle of more bytes; where it starts has nothing to do with a word's size.
 #[derive(PartialEq)]
 pub struct Lent {
     bytes: Vec<u8>,
+    before: usize,
 }
 
 impl Lent {
     const GUARD: usize = 64;
     const PATTERN: u8 = 0xA5;
 
-    fn new(content: &[u8]) -> Lent {
-        let mut bytes = Vec::with_capacity(content.len() + 2 * Lent::GUARD);
-        bytes.resize(Lent::GUARD, Lent::PATTERN);
+    fn new(content: &[u8], shift: usize) -> Lent {
+        let before = Lent::GUARD + shift % 16;
+        let mut bytes = Vec::with_capacity(before + content.len() + Lent::GUARD);
+        bytes.resize(before, Lent::PATTERN);
         bytes.extend(content);
-        bytes.resize(content.len() + 2 * Lent::GUARD, Lent::PATTERN);
-        Lent { bytes }
+        bytes.resize(before + content.len() + Lent::GUARD, Lent::PATTERN);
+        Lent { bytes, before }
     }
 
     fn middle(&self) -> Range<usize> {
-        Lent::GUARD..self.bytes.len() - Lent::GUARD
+        self.before..self.bytes.len() - Lent::GUARD
     }
 
     pub fn slice(&self) -> &[u8] {
@@ -109,7 +111,7 @@ impl Lent {
     pub fn first_difference(&self, other: &Lent) -> Option<(isize, u8, u8)> {
         let mut pairs = self.bytes.iter().zip(&other.bytes).enumerate();
         let (place, (&one, &two)) = pairs.find(|(_, (one, two))| one != two)?;
-        Some((place as isize - Lent::GUARD as isize, one, two))
+        Some((place as isize - self.before as isize, one, two))
     }
 }
 
@@ -127,8 +129,9 @@ const TRACE_BEFORE: u8 = 0x5C;
 
 impl Outcome {
     pub fn of(engine: &dyn Engine, case: &Case) -> Outcome {
-        let (mut chart, mut board) = (Lent::new(&case.chart), Lent::new(&case.board));
-        let mut trace = Lent::new(&vec![TRACE_BEFORE; case.trace]);
+        let shift = case.trace + case.lift as usize;
+        let (mut chart, mut board) = (Lent::new(&case.chart, shift), Lent::new(&case.board, shift / 3));
+        let mut trace = Lent::new(&vec![TRACE_BEFORE; case.trace], shift / 5);
         let answer = engine.answer(case, &mut chart, &mut board, &mut trace);
         Outcome { answer, chart, board, trace }
     }

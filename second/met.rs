@@ -21,7 +21,7 @@ const SIGNS: [&str; 7] = [
     "steps with a path given up",
     "steps in which a send runs a state again",
     "steps that enter an all-of state",
-    "steps that enter a recorded child, not the initial one",
+    "steps that enter a child that was recorded, not the initial one",
 ];
 
 type Item = (usize, usize);

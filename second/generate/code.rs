@@ -17,8 +17,8 @@ pub struct Pool {
 impl Pool {
     /// New code for the draft, about as long as wanted; of a hundred pieces so many are sends.
     pub fn write(random: &mut Random, draft: &mut Draft, wanted: usize, sends: usize) -> Pool {
-        // the longest piece is a tower with its store
-        const LONGEST: usize = 2 * Draft::STACK;
+        // the longest piece is a tower with its store, and two instructions between
+        const LONGEST: usize = 2 * Draft::STACK + 2;
         let mut pieces = Vec::new();
         while draft.code.len() < wanted && draft.code.len() + LONGEST <= Draft::CODE {
             pieces.push(write_piece(random, draft, sends));
@@ -82,10 +82,29 @@ fn write_piece(random: &mut Random, draft: &mut Draft, sends: usize) -> Piece {
         write_value(random, draft, size);
     }
     let value = draft.code.len() - start;
+    let mut sent = false;
     if !draft.variables.is_empty() {
+        if random.one_in(4) {
+            sent = write_between(random, draft, sends);
+        }
         draft.code.push(store(random.below(draft.variables.len())));
     }
-    Piece { start, value, length: draft.code.len() - start, sends: false }
+    Piece { start, value, length: draft.code.len() - start, sends: sent }
+}
+
+/// An instruction or two for which the value before waits on the stack; whether one is a send.
+fn write_between(random: &mut Random, draft: &mut Draft, sends: usize) -> bool {
+    if random.percent(3 * sends) {
+        draft.code.push(send(random.between(1, draft.events as usize), random.below(draft.states.len())));
+        return true;
+    }
+    if draft.outputs > 0 && random.percent(50) {
+        draft.code.push(raise(random.between(1, draft.outputs as usize)));
+    } else {
+        let leaf = any_leaf(random, draft);
+        draft.code.extend([leaf, store(random.below(draft.variables.len()))]);
+    }
+    false
 }
 
 /// Instructions that leave one value; a size of at most 6 keeps far from the stack's end.

@@ -101,7 +101,7 @@ fn wrong_length(random: &mut Random, bytes: &mut Vec<u8>) {
         0 => bytes.truncate(bytes.len().saturating_sub(cut)),
         1 => bytes.truncate(random.between(Draft::HEADER, bytes.len().max(Draft::HEADER))),
         2 => {
-            let more = random.pick(&[1, 1, 4, 6, 16, 18, 13_000]);
+            let more = random.pick(&[1, 1, 4, 6, 16, 18, 13_000, 65_536]);
             bytes.extend(random.bytes(more));
         }
         _ if bytes.len() >= Draft::HEADER => {

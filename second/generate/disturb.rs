@@ -11,7 +11,8 @@ pub fn disturb(random: &mut Random, draft: &Draft, case: &mut Case) {
         45..=54 => disturb_lift(random, case),
         55..=62 => disturb_board(random, case),
         63..=72 => {
-            case.event = random.pick(&[0, 0, draft.events as u32 + 1, draft.events as u32 + 1, 33, 256, 257, 1 << 31, u32::MAX])
+            case.event =
+                random.pick(&[0, 0, draft.events as u32 + 1, draft.events as u32 + 1, 33, 256, 257, 65_537, 1 << 31, u32::MAX])
         }
         73..=84 => {
             let small = random.below(60) as u32;
@@ -20,7 +21,7 @@ pub fn disturb(random: &mut Random, draft: &Draft, case: &mut Case) {
         }
         _ => {
             let small = random.below(60);
-            case.trace = random.pick(&[0, 1, 3, small, small, small, 1020, 1023, 1025, 1028, 1028, 1032, 2048]);
+            case.trace = random.pick(&[0, 1, 3, small, small, small, 1020, 1023, 1025, 1028, 1028, 1032, 2048, 65_536 + small]);
         }
     }
 }
@@ -61,7 +62,7 @@ fn disturb_board(random: &mut Random, case: &mut Case) {
     if length <= case.board.len() {
         case.board.truncate(length);
     } else {
-        let more = random.pick(&[1, 100, IMAGE]);
+        let more = random.pick(&[1, 100, IMAGE, 65_536]);
         case.board.extend(random.bytes(more));
     }
 }

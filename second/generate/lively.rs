@@ -8,7 +8,8 @@ use crate::draft::*;
 
 pub fn any(random: &mut Random) -> Draft {
     match random.below(100) {
-        0..=29 => crossing(random),
+        0..=19 => crossing(random),
+        20..=29 => hand_down(random),
         30..=49 => wings(random),
         50..=74 => web(random),
         75..=89 => arithmetic(random),
@@ -39,6 +40,38 @@ fn crossing(random: &mut Random) -> Draft {
         }
     }
     draft.segment(from_junction(0), to_state(random.between(1, count - 1)), 0);
+    draft
+}
+
+/// Regions whose leaf sends to the next, and the last to any: a sender that moves is then gone while sends further out are open.
+fn hand_down(random: &mut Random) -> Draft {
+    let regions = random.between(2, 6);
+    let mut draft = Draft::over_leaves(ALL_OF, regions);
+    draft.junction(0).junction(0);
+    for region in 1..=regions {
+        let (leaf, aside) = (draft.states.len(), draft.states.len() + 1);
+        draft.states[region] = State { kind: ONE_OF, initial: leaf as u8, ..State::default() };
+        draft.leaves(region, 2);
+        let next_leaf = leaf + 2;
+        let any = random.below(regions + 1);
+        let (event, receiver) = if region == regions { (3, any) } else { (2, random.pick(&[region + 1, next_leaf])) };
+        let sends = draft.block(&[raise(1), send(event, receiver), raise(2)]);
+        if random.percent(80) {
+            draft.segment(outer(leaf), to_state(aside), 3);
+        }
+        draft.segment(outer(aside), to_state(leaf), 1);
+        let source = random.pick(&[outer(leaf), inner(leaf)]);
+        let end = random.pick(&[to_state(aside), to_junction(1)]);
+        match random.below(3) {
+            0 => draft.states[leaf].blocks[DURING] = sends,
+            1 => _ = draft.segment(source, end, 0).condition_action(sends),
+            _ => {
+                let way = draft.junctions.len();
+                draft.junction(0).segment(source, to_junction(way), 0);
+                draft.segment(from_junction(way), end, 0).condition_action(sends);
+            }
+        }
+    }
     draft
 }
 

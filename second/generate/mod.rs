@@ -1,4 +1,5 @@
-//! Random cases: charts of every feature and size, damaged ones, images, and the calls with all that is lent to them; sessions.
+//! Random cases: charts of many features and of every size, damaged ones, images, and the calls with all that is lent to them;
+//! sessions.
 pub mod cases;
 mod charts;
 mod code;

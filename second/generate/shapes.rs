@@ -1,4 +1,4 @@
-//! Valid charts of special shapes, which meet the limits of a step and of the bound exactly, and one beyond.
+//! Valid charts of special shapes, which meet the limits of paths, sends, items and bounds exactly, and one beyond.
 use super::random::Random;
 use super::weights;
 use crate::draft::*;
@@ -11,7 +11,8 @@ pub fn any(random: &mut Random) -> (Draft, usize) {
         32..=51 => (chain_of_sends(random), 8),
         52..=64 => (many_items(random), 8),
         65..=67 => (long_work(random), 3),
-        68..=92 => (weights::exact(random), 2),
+        68..=84 => (weights::exact(random), 2),
+        85..=92 => (weights::chain(random), 4),
         _ => (weights::huge(random), 2),
     }
 }

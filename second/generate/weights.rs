@@ -29,6 +29,25 @@ pub fn exact(random: &mut Random) -> Draft {
     draft
 }
 
+/// A chain of junctions, up or down their numbers, and half of the time a segment back within it: a loop of any length.
+pub fn chain(random: &mut Random) -> Draft {
+    let mut draft = Draft::over_leaves(ONE_OF, 2);
+    let steps = random.between(2, Draft::JUNCTIONS);
+    draft.junctions = vec![0; steps];
+    let upwards = random.percent(50);
+    let junction = |step: usize| if upwards { step } else { steps - 1 - step };
+    for step in 1..steps {
+        draft.segment(from_junction(junction(step - 1)), to_junction(junction(step)), 0);
+    }
+    draft.segment(outer(1), to_junction(junction(0)), 0);
+    if random.percent(50) {
+        let (one, other) = (random.below(steps), random.below(steps));
+        draft.segment(from_junction(junction(one.max(other))), to_junction(junction(one.min(other))), 1);
+    }
+    draft.segment(from_junction(junction(steps - 1)), to_state(2), 0);
+    draft
+}
+
 /// A ladder with up to four segments at each step: as heavy as a chart can be.
 pub fn huge(random: &mut Random) -> Draft {
     let mut draft = Draft::over_leaves(ONE_OF, 1);
