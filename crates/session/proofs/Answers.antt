@@ -14,7 +14,7 @@ use Rattle.rules.specs.Calls.{Board, Answer, boundCall, stepCall, Left, packed,
 use Rattle.rules.specs.Session.{line, itemsIn, stepLine}
 use Rattle.promises.proofs.Unpacking.{step-unpacked, step-fits, bound-unpacked}
 use Rattle.afraulenc.proofs.Testing.{in-range}
-use Rattle.session.specs.Said.{Line, withText, Told, told}
+use Rattle.session.specs.Said.{longest, Line, withText, Told, told}
 use Rattle.session.proofs.Texts.{items-count}
 use Rattle.session.proofs.Numbered.{line-within}
 
@@ -56,7 +56,7 @@ module _ (c : Chart) (board : Board) (trace : Bytes) (k e allowance : ℕ) where
     said : l ≡ withText b 0 (stepLine a)
     said = ap (λ (t : Told). t .said) so
 
-    pub step-within : length b ≡ 5439 → l .end ≤ length (l .bytes)
+    pub step-within : length b ≡ longest → l .end ≤ length (l .bytes)
     unfolding stepLine
     step-within size =
         line-within b (a .refusal .number) (a .units ∷ a .items ∷ itemsIn (a .items) (a .trace)) said size

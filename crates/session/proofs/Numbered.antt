@@ -7,7 +7,7 @@ use lib.ListN.{length, length-append}
 use lib.Seq.{length-sets}
 use Rattle.rules.specs.Bytes.{Bytes, ascii}
 use Rattle.rules.specs.Session.{decimal, line}
-use Rattle.session.specs.Said.{Line, withText, spaced}
+use Rattle.session.specs.Said.{longest, Line, withText, spaced}
 use Rattle.session.proofs.Texts.{put-then, decimal-room, spaced-room, spaced-one, spaced-append, line-spaced}
 
 -- a number stands at the start, with others behind it
@@ -44,6 +44,6 @@ line-room : (n : ℕ) (ns : List ℕ) → length (line (n ∷ ns)) ≤ 21 + 21 *
 unfolding ascii
 line-room n ns = simp (line-spaced, length-append) (omega (arith, decimal-room 20 n, spaced-room ns))
 
-pub line-within : (b : Bytes) (n : ℕ) (ns : List ℕ) {l : Line} → l ≡ withText b 0 (line (n ∷ ns)) → length b ≡ 5439
+pub line-within : (b : Bytes) (n : ℕ) (ns : List ℕ) {l : Line} → l ≡ withText b 0 (line (n ∷ ns)) → length b ≡ longest
     → length ns ≤ 258 → l .end ≤ length (l .bytes)
 line-within b n ns p size few = rw (p, length-sets b 0 (line (n ∷ ns))) (omega (arith, line-room n ns))

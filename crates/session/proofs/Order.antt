@@ -63,45 +63,48 @@ module _ (c : Chart) (board : Board) (trace : Bytes) where
   no-event (m ∷ n ∷ e ∷ rest) t h = rw (rw (le-leb 3 (length (m ∷ n ∷ e ∷ rest)) (omega arith)) at t)
 
   -- what is left goes the same way: by the event's step, and no further than the events
-  pub after-next : (r : Bytes) → startsWithEvent r ≡ true
-      → afterEvents c board trace r ≡ afterEvents c (stepped r .board) (stepped r .trace) (drop 3 r)
+  pub after-next : (k : ℕ) (r : Bytes) → startsWithEvent r ≡ true
+      → afterEvents c board trace k r ≡ afterEvents c (stepped r .board) (stepped r .trace) (k + 1) (drop 3 r)
   unfolding afterEvents if_then_else_ marked
-  after-next [] t = absurd (false≢true t)
-  after-next (m ∷ []) t = absurd (false≢true t)
-  after-next (m ∷ n ∷ []) t = absurd (false≢true t)
-  after-next (m ∷ n ∷ e ∷ rest) t = rw (and-right (leb 3 (length (m ∷ n ∷ e ∷ rest))) (marked (m ∷ n ∷ []) "EV" 0) t)
+  after-next k [] t = absurd (false≢true t)
+  after-next k (m ∷ []) t = absurd (false≢true t)
+  after-next k (m ∷ n ∷ []) t = absurd (false≢true t)
+  after-next k (m ∷ n ∷ e ∷ rest) t = rw (and-right (leb 3 (length (m ∷ n ∷ e ∷ rest))) (marked (m ∷ n ∷ []) "EV" 0) t)
 
-  pub after-none : (r : Bytes) → startsWithEvent r ≡ false → afterEvents c board trace r ≡ record { board = board; trace = trace }
+  pub after-none : (k : ℕ) (r : Bytes) → startsWithEvent r ≡ false → 0 < length r
+      → afterEvents c board trace k r ≡ record { board = board; trace = trace; lines = k + 1 }
   unfolding afterEvents if_then_else_ marked
-  after-none [] t = refl
-  after-none (m ∷ []) t = refl
-  after-none (m ∷ n ∷ []) t = refl
-  after-none (m ∷ n ∷ e ∷ rest) t = rw (rw (le-leb 3 (length (m ∷ n ∷ e ∷ rest)) (omega arith)) at t)
+  after-none k [] t h = absurd (omega arith)
+  after-none k (m ∷ []) t h = refl
+  after-none k (m ∷ n ∷ []) t h = refl
+  after-none k (m ∷ n ∷ e ∷ rest) t h = rw (rw (le-leb 3 (length (m ∷ n ∷ e ∷ rest)) (omega arith)) at t)
 
 -- the events from a place on, as the loop lends them
 rest-all : (events : Bytes) (at : ℕ) → take (length events - at) (drop at events) ≡ drop at events
 rest-all events at = take-all (length events - at) (drop at events) (omega (arith, length-drop at events))
 
 -- a turn of the loop: by an event's step what is left stays what it was, and at another record, or behind the last, it is there
-module _ (c : Chart) (events : Bytes) (at : ℕ) (board : Board) (trace : Bytes) where
+module _ (c : Chart) (events : Bytes) (at : ℕ) (board : Board) (trace : Bytes) (k : ℕ) where
   pub turn : {t : Bool} → t ≡ startsWithEvent (take (length events - at) (drop at events)) → not t ≡ false
       → (b : Bytes) {l : Line} {board′ : Board} {trace′ : Bytes}
       → record { said = l; board = board′; trace = trace′ }
       ≡ told b (stepCall c board trace 0 (byte (take (length events - at) (drop at events)) 2) mostUnits)
-      → afterEvents c board′ trace′ (drop (at + 3) events) ≡ afterEvents c board trace (drop at events)
+      → afterEvents c board′ trace′ (k + 1) (drop (at + 3) events) ≡ afterEvents c board trace k (drop at events)
   turn {t} own so b e =
       let r : take (length events - at) (drop at events) ≡ drop at events = rest-all events at in
       let yes : startsWithEvent (drop at events) ≡ true = rw r at (sym own ∙ not-false t so) in
       let boards = ap (λ (x : Told). x .board) e in
       let traces = ap (λ (x : Told). x .trace) e in
-      rw (boards, traces, r, ← drop-drop 3 at events) (sym (after-next c board trace (drop at events) yes))
+      rw (boards, traces, r, ← drop-drop 3 at events) (sym (after-next c board trace k (drop at events) yes))
 
   pub turned-away : {t : Bool} → t ≡ startsWithEvent (take (length events - at) (drop at events)) → not t ≡ true
-      → record { board = board; trace = trace } ≡ afterEvents c board trace (drop at events)
-  turned-away {t} own so =
-      sym (after-none c board trace (drop at events) (rw (rest-all events at) at (sym own ∙ not-true t so)))
+      → at < length events → record { board = board; trace = trace; lines = k + 1 } ≡ afterEvents c board trace k (drop at events)
+  turned-away {t} own so h =
+      let none = rw (rest-all events at) at (sym own ∙ not-true t so) in
+      sym (after-none c board trace k (drop at events) none (omega (arith, length-drop at events)))
 
-  pub all-told : length events ≤ at → record { board = board; trace = trace } ≡ afterEvents c board trace (drop at events)
+  pub all-told : length events ≤ at
+      → record { board = board; trace = trace; lines = k } ≡ afterEvents c board trace k (drop at events)
   unfolding afterEvents
   all-told h = rw (drop-of-length-le events h)
 
@@ -109,12 +112,12 @@ module _ (c : Chart) (events : Bytes) (at : ℕ) (board : Board) (trace : Bytes)
 module _ (c : Chart) (board : Board) (trace events : Bytes) {t : Bool} (own : t ≡ not (within 1 11 (boundCall c .refusal .number))) where
   pub chart-taken : t ≡ true → {r : ℕ} {board′ : Board} {l : Lent}
       → record { answer = r; board = board′; trace = [] } ≡ left (freshCall c board 0)
-      → l ≡ afterEvents c board′ trace events → l ≡ afterChart c board trace events
+      → l ≡ afterEvents c board′ trace 0 events → l ≡ afterChart c board trace events
   unfolding afterChart if_then_else_ left
   chart-taken so fresh e =
       let boards = ap (λ (x : Left). x .board) fresh in
       e ∙ rw (not-true (within 1 11 (boundCall c .refusal .number)) (sym own ∙ so), boards)
 
-  pub chart-refused : t ≡ false → record { board = board; trace = trace } ≡ afterChart c board trace events
+  pub chart-refused : t ≡ false → record { board = board; trace = trace; lines = 0 } ≡ afterChart c board trace events
   unfolding afterChart if_then_else_
   chart-refused so = rw (not-false (within 1 11 (boundCall c .refusal .number)) (sym own ∙ so))

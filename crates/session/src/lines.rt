@@ -5,7 +5,7 @@ ghost use mathlib.Core.List.{[], _∷_, _++_};
 ghost use Prim.Native.Nat.{_+_, _*_, _≤_};
 ghost use Rattle.rules.specs.Bytes.{ascii};
 ghost use Rattle.rules.specs.Session.{decimal, itemsIn};
-ghost use Rattle.session.specs.Said.{withText, spaced};
+ghost use Rattle.session.specs.Said.{longest, withText, spaced};
 
 // The digits of a u64.
 const DIGITS: usize = 20;
@@ -14,7 +14,7 @@ const DIGITS: usize = 20;
 pub const LONGEST: usize = (3 + Item::MOST) * (DIGITS + 1);
 
 fn put_byte(line: &mut [u8; LONGEST], at: usize, b: u8) -> usize
-    requires { ⌜ at + 1 ≤ 5439 ⌝ }
+    requires { ⌜ at + 1 ≤ longest ⌝ }
     ensures { λ r. ⌜ record { bytes = now (line .exit); end = r } ≡ withText (now (line .entry)) at (b ∷ []) ⌝ }
 {
     line[at] = b;
@@ -23,7 +23,7 @@ fn put_byte(line: &mut [u8; LONGEST], at: usize, b: u8) -> usize
 
 // A number in at most so many digits.
 fn put_digits(line: &mut [u8; LONGEST], at: usize, n: u64, digits: usize) -> usize
-    requires { ⌜ at + digits ≤ 5439 ⌝ }
+    requires { ⌜ at + digits ≤ longest ⌝ }
     ensures { λ r. ⌜ record { bytes = now (line .exit); end = r } ≡ withText (now (line .entry)) at (decimal digits n) ⌝ }
 {
     if digits == 0 {
@@ -38,14 +38,14 @@ fn put_digits(line: &mut [u8; LONGEST], at: usize, n: u64, digits: usize) -> usi
 }
 
 pub fn put_number(line: &mut [u8; LONGEST], at: usize, n: u64) -> usize
-    requires { ⌜ at + 20 ≤ 5439 ⌝ }
+    requires { ⌜ at + 20 ≤ longest ⌝ }
     ensures { λ r. ⌜ record { bytes = now (line .exit); end = r } ≡ withText (now (line .entry)) at (decimal 20 n) ⌝ }
 {
     put_digits(line, at, n, DIGITS)
 }
 
 pub fn put_end(line: &mut [u8; LONGEST], at: usize) -> usize
-    requires { ⌜ at + 1 ≤ 5439 ⌝ }
+    requires { ⌜ at + 1 ≤ longest ⌝ }
     ensures { λ r. ⌜ record { bytes = now (line .exit); end = r } ≡ withText (now (line .entry)) at (ascii "\n") ⌝ }
 {
     put_byte(line, at, b'\n')
@@ -53,7 +53,7 @@ pub fn put_end(line: &mut [u8; LONGEST], at: usize) -> usize
 
 // A number behind another.
 pub fn put_next(line: &mut [u8; LONGEST], at: usize, n: u64) -> usize
-    requires { ⌜ at + 21 ≤ 5439 ⌝ }
+    requires { ⌜ at + 21 ≤ longest ⌝ }
     ensures { λ r. ⌜ record { bytes = now (line .exit); end = r } ≡ withText (now (line .entry)) at (ascii " " ++ decimal 20 n) ⌝ }
 {
     let end = put_byte(line, at, b' ');
@@ -62,7 +62,7 @@ pub fn put_next(line: &mut [u8; LONGEST], at: usize, n: u64) -> usize
 
 // The first items of a trace.
 pub fn put_items(line: &mut [u8; LONGEST], at: usize, trace: &[u8], items: usize) -> usize
-    requires { ⌜ at + 21 * items ≤ 5439 ⌝ }
+    requires { ⌜ at + 21 * items ≤ longest ⌝ }
     ensures { λ r. ⌜ record { bytes = now (line .exit); end = r } ≡ withText (now (line .entry)) at (spaced (itemsIn items (now (trace .entry)))) ⌝ }
 {
     let mut end = at;

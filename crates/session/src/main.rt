@@ -15,35 +15,39 @@ fn say_bad() {
     io::write_all(STDOUT_FILENO, b"bad session\n");
 }
 
-// A line for each event, up to a record that is none.
-fn say_events(chart: &[u8], board: &mut [u8], trace: &mut [u8], events: &[u8])
-    ensures { λ _. ⌜ record { board = now (board .exit); trace = now (trace .exit) } ≡ afterEvents (now (chart .entry)) (now (board .entry)) (now (trace .entry)) (now (events .entry)) ⌝ }
+// A line for each event, up to a record that is none; how many lines were said.
+fn say_events(chart: &[u8], board: &mut [u8], trace: &mut [u8], events: &[u8]) -> usize
+    ensures { λ r. ⌜ record { board = now (board .exit); trace = now (trace .exit); lines = r } ≡ afterEvents (now (chart .entry)) (now (board .entry)) (now (trace .entry)) 0 (now (events .entry)) ⌝ }
 {
     let mut line = [0u8; lines::LONGEST];
     let mut at = 0;
+    let mut said: usize = 0;
     while at < events.len() {
         let record = &events[at..];
         if !records::is_event(record) {
             say_bad();
-            return;
+            return said + 1;
         }
         let length = saying::step(chart, board, trace, record[2], &mut line);
         io::write_all(STDOUT_FILENO, &line[..length]);
+        said += 1;
         at += records::EVENT;
     }
+    said
 }
 
-// The chart's line, and the events on a lift that is made fresh for it.
-fn say_chart(chart: &[u8], board: &mut [u8], trace: &mut [u8], events: &[u8])
-    ensures { λ _. ⌜ record { board = now (board .exit); trace = now (trace .exit) } ≡ afterChart (now (chart .entry)) (now (board .entry)) (now (trace .entry)) (now (events .entry)) ⌝ }
+// The chart's line, and the events' lines on a lift that is made fresh for it; how many these were.
+fn say_chart(chart: &[u8], board: &mut [u8], trace: &mut [u8], events: &[u8]) -> usize
+    ensures { λ r. ⌜ record { board = now (board .exit); trace = now (trace .exit); lines = r } ≡ afterChart (now (chart .entry)) (now (board .entry)) (now (trace .entry)) (now (events .entry)) ⌝ }
 {
     let mut line = [0u8; lines::LONGEST];
     let said = saying::bound(chart, &mut line);
     io::write_all(STDOUT_FILENO, &line[..said.length]);
-    if said.more {
-        afraulenc::fresh(chart, board, 0);
-        say_events(chart, board, trace, events);
+    if !said.more {
+        return 0;
     }
+    afraulenc::fresh(chart, board, 0);
+    say_events(chart, board, trace, events)
 }
 
 fn main() {

@@ -44,10 +44,16 @@ slice-aggregate-say-chart-2 : tie.Need-slice-aggregate-say-chart-2
 slice-aggregate-say-chart-2 c = search needs
 
 sub-say-chart-2 : tie.Need-sub-say-chart-2
-sub-say-chart-2 c = chart-within _ (c .before .before .before .before .before .is-bad .ensures) (c .before .before .before .before .if1 .left) (c .before .before .before .chart-end .ensures)
+sub-say-chart-2 c = chart-within _
+    (c .before .before .before .before .before .is-bad .ensures)
+    (c .before .before .before .before .if1 .left)
+    (c .before .before .before .chart-end .ensures)
 
 part-say-chart-start-2 : tie.Need-part-say-chart-start-2
-part-say-chart-start-2 c = chart-within _ (c .before .before .before .before .before .is-bad .ensures) (c .before .before .before .before .if1 .left) (c .before .before .before .chart-end .ensures)
+part-say-chart-start-2 c = chart-within _
+    (c .before .before .before .before .before .is-bad .ensures)
+    (c .before .before .before .before .if1 .left)
+    (c .before .before .before .chart-end .ensures)
 
 part-say-chart-end-2 : tie.Need-part-say-chart-end-2
 part-say-chart-end-2 c = search needs

@@ -4,6 +4,8 @@ use Prim.Native.Nat.{ℕ}
 use native.Mathlib.Omega.{arith}
 use lib.ListN.{length-replicate}
 use lib.Seq.{length-take-le}
+use borrow.Author.Tests.{not-true, not-false}
+use Rattle.session.specs.Said.{longest}
 use Rattle.session.proofs.Numbered.{line-within}
 use Rattle.session.proofs.Order.{chart-taken, chart-refused}
 use borrow.Author.Needs.{needs}
@@ -14,15 +16,24 @@ bound-requires : tie.Need-bound-requires
 bound-requires c κs = search needs
 
 array-share-prefix-line : tie.Need-array-share-prefix-line
-array-share-prefix-line c = line-within _ _ _ (c .bound .ensures .0) (length-replicate {A = ℕ} 5439 0) (omega arith)
+array-share-prefix-line c = line-within _ _ _ (c .bound .ensures .0) (length-replicate {A = ℕ} longest 0) (omega arith)
 
 slice-aggregate-write-all : tie.Need-slice-aggregate-write-all
 slice-aggregate-write-all c =
-    let ends = line-within _ _ _ (c .before .bound .ensures .0) (length-replicate {A = ℕ} 5439 0) (omega arith) in
+    let ends = line-within _ _ _ (c .before .bound .ensures .0) (length-replicate {A = ℕ} longest 0) (omega arith) in
     sym (length-take-le _ _ ends)
 
 write-all-requires : tie.Need-write-all-requires
 write-all-requires c κs = search needs
+
+returns : tie.Need-returns
+returns c = chart-refused
+    (c .before .before .before .before .before .before .before .before .before .before .args .chart .now)
+    (c .before .before .before .before .before .before .before .before .before .before .args .board .now)
+    (c .before .before .before .before .before .before .before .before .before .before .args .trace .now)
+    (c .before .before .before .before .before .before .before .before .before .before .args .events .now)
+    (c .before .before .before .before .bound .ensures .1) (not-true _
+    (c .if1 .taken))
 
 fresh-requires : tie.Need-fresh-requires
 fresh-requires c κs = search needs
@@ -36,11 +47,16 @@ same-length c = search needs
 same-length-2 : tie.Need-same-length-2
 same-length-2 c = search needs
 
-returns : tie.Need-returns
-returns c = chart-taken (c .before .before .before .before .before .before .before .before .before .before .before .before .before .before .before .before .before .before .before .before .args .chart .now) (c .before .before .before .before .before .before .before .before .before .before .before .before .before .before .before .before .before .before .before .before .args .board .now) (c .before .before .before .before .before .before .before .before .before .before .before .before .before .before .before .before .before .before .before .before .args .trace .now) (c .before .before .before .before .before .before .before .before .before .before .before .before .before .before .before .before .before .before .before .before .args .events .now) (c .before .before .before .before .before .before .before .before .before .before .before .before .before .before .bound .ensures .1) (c .before .before .before .before .before .before .before .before .before .before .before .if1 .taken) (c .before .before .before .before .before .before .before .before .before .fresh .ensures) (c .before .before .before .before .say-events .ensures)
-
 returns-2 : tie.Need-returns-2
-returns-2 c = chart-refused (c .before .before .before .before .before .before .before .before .before .args .chart .now) (c .before .before .before .before .before .before .before .before .before .args .board .now) (c .before .before .before .before .before .before .before .before .before .args .trace .now) (c .before .before .before .before .before .before .before .before .before .args .events .now) (c .before .before .before .bound .ensures .1) (c .if1 .left)
+returns-2 c = chart-taken
+    (c .before .before .before .before .before .before .before .before .before .before .before .before .before .before .before .before .before .before .before .before .before .args .chart .now)
+    (c .before .before .before .before .before .before .before .before .before .before .before .before .before .before .before .before .before .before .before .before .before .args .board .now)
+    (c .before .before .before .before .before .before .before .before .before .before .before .before .before .before .before .before .before .before .before .before .before .args .trace .now)
+    (c .before .before .before .before .before .before .before .before .before .before .before .before .before .before .before .before .before .before .before .before .before .args .events .now)
+    (c .before .before .before .before .before .before .before .before .before .before .before .before .before .before .before .bound .ensures .1) (not-false _
+    (c .before .before .before .before .before .before .before .before .before .before .before .if1 .left))
+    (c .before .before .before .before .before .before .before .before .before .fresh .ensures)
+    (c .before .before .before .before .say-events .ensures)
 
 pub say-chart-spec : {M : Type 1} → statement M
 say-chart-spec =
@@ -50,9 +66,9 @@ say-chart-spec =
     array-share-prefix-line
     slice-aggregate-write-all
     write-all-requires
+    returns
     fresh-requires
     say-events-requires
     same-length
     same-length-2
-    returns
     returns-2)

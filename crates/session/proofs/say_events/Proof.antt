@@ -2,25 +2,26 @@
 -- the first. The lent bytes keep their sizes, so each line ends within its bytes; an event's record is whole. Assumes nothing.
 use mathlib.Core.Path.{_≡_, refl, sym, _∙_}
 use Prim.Native.Nat.{_≤_, _-_}
+use native.Mathlib.Omega.{arith}
 use lib.ListN.{length, drop}
 use lib.Seq.{length-take-le}
 use borrow.Author.Needs.{needs}
-use Rattle.session.specs.Said.{afterEvents}
+use Rattle.session.specs.Said.{longest, afterEvents}
 use Rattle.session.proofs.Order.{record-whole, record-within, turn, turned-away, all-told}
 use Rattle.session.proofs.Answers.{step-within, step-size}
 use Rattle.session.proofs.say_events.Statement.{statement}
 use Rattle.session.proofs.say_events.Tie as tie
 
 abbrev Inv-loop : tie.InvT-loop
-Inv-loop chart board₀ trace₀ events line₀ at₀ board trace line at =
-    (at ≤ length events) × (length board ≡ length board₀) × (length trace ≡ length trace₀) × (length line ≡ 5439)
-    × (afterEvents chart board trace (drop at events) ≡ afterEvents chart board₀ trace₀ events)
+Inv-loop chart board₀ trace₀ events line₀ at₀ said₀ board trace line at said =
+    (at ≤ length events) × (said ≤ at) × (length board ≡ length board₀) × (length trace ≡ length trace₀) × (length line ≡ longest)
+    × (afterEvents chart board trace said (drop at events) ≡ afterEvents chart board₀ trace₀ 0 events)
 
 abbrev μ-loop : tie.MeasureT-loop
-μ-loop chart board₀ trace₀ events line₀ at₀ board trace line at = length events - at
+μ-loop chart board₀ trace₀ events line₀ at₀ said₀ board trace line at said = length events - at
 
 loop-holds : tie.Need-loop-holds Inv-loop μ-loop
-loop-holds c = (search needs, search needs, search needs, search needs, refl)
+loop-holds c = (search needs, search needs, search needs, search needs, search needs, refl)
 
 sub-record : tie.Need-sub-record Inv-loop μ-loop
 sub-record c = search needs
@@ -37,6 +38,9 @@ is-event-requires c κs = search needs
 say-bad-requires : tie.Need-say-bad-requires Inv-loop μ-loop
 say-bad-requires c κs = search needs
 
+add-result : tie.Need-add-result Inv-loop μ-loop
+add-result c = search needs
+
 same-length : tie.Need-same-length Inv-loop μ-loop
 same-length c = search needs
 
@@ -44,24 +48,46 @@ same-length-2 : tie.Need-same-length-2 Inv-loop μ-loop
 same-length-2 c = search needs
 
 returns : tie.Need-returns Inv-loop μ-loop
-returns c = turned-away (c .before .before .before .before .before .before .before .before .before .before .args .chart .now) (c .before .before .before .before .before .before .before .before .before .before .args .events .now) (c .before .before .before .before .before .loop .at) (c .before .before .before .before .before .loop .board) (c .before .before .before .before .before .loop .trace) (c .before .before .is-event .ensures) (c .before .if1 .taken) ∙ c .before .before .before .before .before .loop .inv .4
+returns c =
+    turned-away
+    (c .before .before .before .before .before .before .before .before .before .before .args .chart .now)
+    (c .before .before .before .before .before .before .before .before .before .before .args .events .now)
+    (c .before .before .before .before .before .loop .at)
+    (c .before .before .before .before .before .loop .board)
+    (c .before .before .before .before .before .loop .trace)
+    (c .before .before .before .before .before .loop .said)
+    (c .before .before .is-event .ensures)
+    (c .before .if1 .taken)
+    (c .before .before .before .before .loop-test .taken)
+    ∙ c .before .before .before .before .before .loop .inv .5
 
 shared-slice-read-step : tie.Need-shared-slice-read-step Inv-loop μ-loop
-shared-slice-read-step c = record-whole (c .before .before .before .before .before .before .before .before .before .before .before .before .args .events .now) (c .before .before .before .before .before .before .before .loop .at) (c .before .before .before .before .is-event .ensures) (c .before .before .before .if1 .left)
+shared-slice-read-step c = record-whole
+    (c .before .before .before .before .before .before .before .before .before .before .before .before .args .events .now)
+    (c .before .before .before .before .before .before .before .loop .at)
+    (c .before .before .before .before .is-event .ensures)
+    (c .before .before .before .if1 .left)
 
 step-requires : tie.Need-step-requires Inv-loop μ-loop
 step-requires c κs = search needs
 
 array-share-prefix-line : tie.Need-array-share-prefix-line Inv-loop μ-loop
-array-share-prefix-line c = step-within _ _ _ _ _ _ _ (c .before .before .before .before .step .ensures) (c .before .before .before .before .before .before .before .before .before .before .before .before .before .loop .inv .3)
+array-share-prefix-line c = step-within _ _ _ _ _ _ _
+    (c .before .before .before .before .step .ensures)
+    (c .before .before .before .before .before .before .before .before .before .before .before .before .before .loop .inv .4)
 
 slice-aggregate-write-all : tie.Need-slice-aggregate-write-all Inv-loop μ-loop
 slice-aggregate-write-all c =
-    let ends = step-within _ _ _ _ _ _ _ (c .before .before .before .before .before .step .ensures) (c .before .before .before .before .before .before .before .before .before .before .before .before .before .before .loop .inv .3) in
+    let ends = step-within _ _ _ _ _ _ _
+    (c .before .before .before .before .before .step .ensures)
+    (c .before .before .before .before .before .before .before .before .before .before .before .before .before .before .loop .inv .4) in
     sym (length-take-le _ _ ends)
 
 write-all-requires : tie.Need-write-all-requires Inv-loop μ-loop
 write-all-requires c κs = search needs
+
+add-said : tie.Need-add-said Inv-loop μ-loop
+add-said c = search needs
 
 add-at : tie.Need-add-at Inv-loop μ-loop
 add-at c = search needs
@@ -71,11 +97,28 @@ loop-less c = search needs
 
 loop-again : tie.Need-loop-again Inv-loop μ-loop
 loop-again c = (
-  record-within (c .before .before .before .before .before .before .before .before .before .before .before .before .before .before .before .before .before .before .before .before .args .events .now) (c .before .before .before .before .before .before .before .before .before .before .before .before .before .before .before .loop .at) (c .before .before .before .before .before .before .before .before .before .before .before .before .is-event .ensures) (c .before .before .before .before .before .before .before .before .before .before .before .if1 .left),
+  record-within
+      (c .before .before .before .before .before .before .before .before .before .before .before .before .before .before .before .before .before .before .before .before .args .events .now)
+      (c .before .before .before .before .before .before .before .before .before .before .before .before .before .before .before .loop .at)
+      (c .before .before .before .before .before .before .before .before .before .before .before .before .is-event .ensures)
+      (c .before .before .before .before .before .before .before .before .before .before .before .if1 .left),
+  omega (arith, c .before .before .before .before .before .before .before .before .before .before .before .before .before .before .before .loop .inv .1),
   search needs,
   search needs,
-  step-size _ _ _ _ _ _ _ (c .before .before .before .before .before .before .step .ensures) ∙ c .before .before .before .before .before .before .before .before .before .before .before .before .before .before .before .loop .inv .3,
-  turn (c .before .before .before .before .before .before .before .before .before .before .before .before .before .before .before .before .before .before .before .before .args .chart .now) (c .before .before .before .before .before .before .before .before .before .before .before .before .before .before .before .before .before .before .before .before .args .events .now) (c .before .before .before .before .before .before .before .before .before .before .before .before .before .before .before .loop .at) (c .before .before .before .before .before .before .before .before .before .before .before .before .before .before .before .loop .board) (c .before .before .before .before .before .before .before .before .before .before .before .before .before .before .before .loop .trace) (c .before .before .before .before .before .before .before .before .before .before .before .before .is-event .ensures) (c .before .before .before .before .before .before .before .before .before .before .before .if1 .left) _ (c .before .before .before .before .before .before .step .ensures) ∙ c .before .before .before .before .before .before .before .before .before .before .before .before .before .before .before .loop .inv .4,
+  step-size _ _ _ _ _ _ _
+      (c .before .before .before .before .before .before .step .ensures)
+      ∙ c .before .before .before .before .before .before .before .before .before .before .before .before .before .before .before .loop .inv .4,
+  turn
+      (c .before .before .before .before .before .before .before .before .before .before .before .before .before .before .before .before .before .before .before .before .args .chart .now)
+      (c .before .before .before .before .before .before .before .before .before .before .before .before .before .before .before .before .before .before .before .before .args .events .now)
+      (c .before .before .before .before .before .before .before .before .before .before .before .before .before .before .before .loop .at)
+      (c .before .before .before .before .before .before .before .before .before .before .before .before .before .before .before .loop .board)
+      (c .before .before .before .before .before .before .before .before .before .before .before .before .before .before .before .loop .trace)
+      (c .before .before .before .before .before .before .before .before .before .before .before .before .before .before .before .loop .said)
+      (c .before .before .before .before .before .before .before .before .before .before .before .before .is-event .ensures)
+      (c .before .before .before .before .before .before .before .before .before .before .before .if1 .left) _
+      (c .before .before .before .before .before .before .step .ensures)
+      ∙ c .before .before .before .before .before .before .before .before .before .before .before .before .before .before .before .loop .inv .5,
 )
 
 same-length-3 : tie.Need-same-length-3 Inv-loop μ-loop
@@ -85,7 +128,15 @@ same-length-4 : tie.Need-same-length-4 Inv-loop μ-loop
 same-length-4 c = search needs
 
 returns-2 : tie.Need-returns-2 Inv-loop μ-loop
-returns-2 c = all-told (c .before .before .before .before .before .before .args .chart .now) (c .before .before .before .before .before .before .args .events .now) (c .before .loop .at) (c .before .loop .board) (c .before .loop .trace) (c .loop-test .left) ∙ c .before .loop .inv .4
+returns-2 c = all-told
+    (c .before .before .before .before .before .before .args .chart .now)
+    (c .before .before .before .before .before .before .args .events .now)
+    (c .before .loop .at)
+    (c .before .loop .board)
+    (c .before .loop .trace)
+    (c .before .loop .said)
+    (c .loop-test .left)
+    ∙ c .before .loop .inv .5
 
 pub say-events-spec : {M : Type 1} → statement M
 say-events-spec =
@@ -99,6 +150,7 @@ say-events-spec =
     part-record-end
     is-event-requires
     say-bad-requires
+    add-result
     same-length
     same-length-2
     returns
@@ -107,6 +159,7 @@ say-events-spec =
     array-share-prefix-line
     slice-aggregate-write-all
     write-all-requires
+    add-said
     add-at
     loop-less
     loop-again

@@ -42,7 +42,13 @@ put-digits-put-byte-requires : (t : ℕ) → put-digits-lts.Need-put-byte-requir
 put-digits-put-byte-requires t c κs = omega (arith, c .before .before .before .pre, c .before .before .if1 .left)
 
 put-digits-returns-2 : (t : ℕ) → put-digits-lts.Need-returns-2 (put-digits-calls t) (put-digits-at t) put-digits.Post
-put-digits-returns-2 t c = c .put-byte .ensures ∙ ap (withText (c .before .before .before .before .args .line .now) (c .before .before .before .before .args .at)) (sym (one-digit (c .before .before .before .before .args .digits) (c .before .before .before .before .args .n) (c .before .before .before .if1 .left) (c .before .before .if2 .taken)))
+put-digits-returns-2 t c = c .put-byte .ensures ∙ ap (withText
+    (c .before .before .before .before .args .line .now)
+    (c .before .before .before .before .args .at)) (sym (one-digit
+    (c .before .before .before .before .args .digits)
+    (c .before .before .before .before .args .n)
+    (c .before .before .before .if1 .left)
+    (c .before .before .if2 .taken)))
 
 put-digits-sub-put-digits : (t : ℕ) → put-digits-lts.Need-sub-put-digits (put-digits-calls t) (put-digits-at t) put-digits.Post
 put-digits-sub-put-digits t c = search needs
@@ -53,10 +59,30 @@ put-digits-put-digits-requires t c κs = (omega (arith, c .before .before .befor
 put-digits-put-byte-requires-2 : (t : ℕ) → put-digits-lts.Need-put-byte-requires-2 (put-digits-calls t) (put-digits-at t) put-digits.Post
 put-digits-put-byte-requires-2 t c κs =
     let end = ap (λ (l : Line). l .end) (c .before .put-digits .ensures) in
-    omega (arith, c .before .before .before .before .before .pre, c .before .before .before .before .if1 .left, end, decimal-room (c .before .before .before .before .before .args .digits - 1) (c .before .before .before .before .before .args .n / 10))
+    omega (
+      arith,
+      c .before .before .before .before .before .pre,
+      c .before .before .before .before .if1 .left,
+      end,
+      decimal-room
+          (c .before .before .before .before .before .args .digits - 1)
+          (c .before .before .before .before .before .args .n / 10),
+    )
 
 put-digits-returns-3 : (t : ℕ) → put-digits-lts.Need-returns-3 (put-digits-calls t) (put-digits-at t) put-digits.Post
-put-digits-returns-3 t c = put-then (c .before .before .before .before .before .before .args .line .now) (c .before .before .before .before .before .before .args .at) (decimal (c .before .before .before .before .before .before .args .digits - 1) (c .before .before .before .before .before .before .args .n / 10)) _ (c .before .before .put-digits .ensures) (c .put-byte2 .ensures) ∙ ap (withText (c .before .before .before .before .before .before .args .line .now) (c .before .before .before .before .before .before .args .at)) (sym (more-digits (c .before .before .before .before .before .before .args .digits) (c .before .before .before .before .before .before .args .n) (c .before .before .before .before .before .if1 .left) (c .before .before .before .before .if2 .left)))
+put-digits-returns-3 t c = put-then
+    (c .before .before .before .before .before .before .args .line .now)
+    (c .before .before .before .before .before .before .args .at) (decimal
+    (c .before .before .before .before .before .before .args .digits - 1)
+    (c .before .before .before .before .before .before .args .n / 10)) _
+    (c .before .before .put-digits .ensures)
+    (c .put-byte2 .ensures) ∙ ap (withText
+    (c .before .before .before .before .before .before .args .line .now)
+    (c .before .before .before .before .before .before .args .at)) (sym (more-digits
+    (c .before .before .before .before .before .before .args .digits)
+    (c .before .before .before .before .before .before .args .n)
+    (c .before .before .before .before .before .if1 .left)
+    (c .before .before .before .before .if2 .left)))
 
 pub +put-digits-spec : {M : Type 1} → statement M
 +put-digits-spec = close μ-put-digits λ t. put-digits-lts.spec (put-digits-calls t)

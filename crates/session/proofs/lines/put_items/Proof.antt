@@ -29,7 +29,16 @@ cast-put-next : tie.Need-cast-put-next Inv-loop μ-loop
 cast-put-next c = search needs
 
 put-next-requires : tie.Need-put-next-requires Inv-loop μ-loop
-put-next-requires c κs = omega (arith, c .before .before .before .before .before .pre, c .before .before .loop-test .taken, ap (λ (l : Line). l .end) (c .before .before .before .loop .inv .1), items-room (c .before .before .before .loop .i) (c .before .before .before .before .before .args .trace .now))
+put-next-requires c κs = omega (
+  arith,
+  c .before .before .before .before .before .pre,
+  c .before .before .loop-test .taken,
+  ap (λ (l : Line). l .end)
+      (c .before .before .before .loop .inv .1),
+  items-room
+      (c .before .before .before .loop .i)
+      (c .before .before .before .before .before .args .trace .now),
+)
 
 add-i : tie.Need-add-i Inv-loop μ-loop
 add-i c = omega (arith, c .before .before .before .before .before .before .pre, c .before .before .before .loop-test .taken)
@@ -38,10 +47,30 @@ loop-less : tie.Need-loop-less Inv-loop μ-loop
 loop-less c = omega arith
 
 loop-again : tie.Need-loop-again Inv-loop μ-loop
-loop-again c = (omega (arith, c .before .before .before .loop-test .taken), item-put (c .before .before .before .before .before .before .args .line .now) (c .before .before .before .before .before .before .args .at) (c .before .before .before .before .before .before .args .trace .now) (c .before .before .before .before .loop .i) (c .before .before .before .before .loop .inv .1) (rw (sym (c .before .u32-at .ensures)) (c .put-next .ensures)))
+loop-again c = (
+  omega (
+    arith,
+    c .before .before .before .loop-test .taken,
+  ),
+  item-put
+      (c .before .before .before .before .before .before .args .line .now)
+      (c .before .before .before .before .before .before .args .at)
+      (c .before .before .before .before .before .before .args .trace .now)
+      (c .before .before .before .before .loop .i)
+      (c .before .before .before .before .loop .inv .1) (rw (sym
+      (c .before .u32-at .ensures))
+      (c .put-next .ensures)),
+)
 
 returns : tie.Need-returns Inv-loop μ-loop
-returns c = c .before .loop .inv .1 ∙ ap (withItems (c .before .before .before .args .line .now) (c .before .before .before .args .at) (c .before .before .before .args .trace .now)) (omega (arith, c .before .loop .inv .0, c .loop-test .left))
+returns c = c .before .loop .inv .1 ∙ ap (withItems
+    (c .before .before .before .args .line .now)
+    (c .before .before .before .args .at)
+    (c .before .before .before .args .trace .now)) (omega (
+      arith,
+      c .before .loop .inv .0,
+      c .loop-test .left,
+    ))
 
 pub put-items-spec : {M : Type 1} → statement M
 put-items-spec =

@@ -18,7 +18,12 @@ put-number-requires c κs = omega (arith, c .before .before .before .pre, ap (λ
 
 returns : tie.Need-returns
 unfolding ascii
-returns c = put-then (c .before .before .before .before .args .line .now) (c .before .before .before .before .args .at) (32 ∷ []) (decimal 20 (c .before .before .before .before .args .n)) (c .before .before .put-byte .ensures) (c .put-number .ensures)
+returns c = put-then
+    (c .before .before .before .before .args .line .now)
+    (c .before .before .before .before .args .at) (32 ∷ []) (decimal 20
+    (c .before .before .before .before .args .n))
+    (c .before .before .put-byte .ensures)
+    (c .put-number .ensures)
 
 pub put-next-spec : {M : Type 1} → statement M
 put-next-spec = tie.close (tie.spec put-byte-requires put-number-requires returns)

@@ -27,7 +27,12 @@ put-items-requires c κs =
     let one = first _ _ (c .before .before .before .before .before .before .put-number .ensures) in
     let two = next one _ (c .before .before .before .before .put-next .ensures) in
     let three = next two _ (c .before .before .put-next2 .ensures) in
-    omega (arith, room three, few-items _ _ _ _ _ _ (c .before .before .before .before .before .before .before .before .before .before .before .before .step .ensures))
+    omega (
+      arith,
+      room three,
+      few-items _ _ _ _ _ _
+          (c .before .before .before .before .before .before .before .before .before .before .before .before .step .ensures),
+    )
 
 put-end-requires : tie.Need-put-end-requires
 put-end-requires c κs =
@@ -35,7 +40,12 @@ put-end-requires c κs =
     let two = next one _ (c .before .before .before .before .before .before .put-next .ensures) in
     let three = next two _ (c .before .before .before .before .put-next2 .ensures) in
     let all = others three _ (c .before .put-items .ensures) in
-    omega (arith, rw items-count at (room all), few-items _ _ _ _ _ _ (c .before .before .before .before .before .before .before .before .before .before .before .before .before .before .step .ensures))
+    omega (
+      arith,
+      rw items-count at (room all),
+      few-items _ _ _ _ _ _
+          (c .before .before .before .before .before .before .before .before .before .before .before .before .before .before .step .ensures),
+    )
 
 same-length : tie.Need-same-length
 same-length c = search needs
@@ -49,7 +59,9 @@ returns c =
     let two = next one _ (c .before .before .before .before .before .before .before .put-next .ensures) in
     let three = next two _ (c .before .before .before .before .before .put-next2 .ensures) in
     let all = others three _ (c .before .before .put-items .ensures) in
-    step-told _ _ _ _ _ _ (c .before .before .before .before .before .before .before .before .before .before .before .before .before .before .before .step .ensures) _ (ended all (c .put-end .ensures))
+    step-told _ _ _ _ _ _
+    (c .before .before .before .before .before .before .before .before .before .before .before .before .before .before .before .step .ensures) _ (ended all
+    (c .put-end .ensures))
 
 pub step-spec : {M : Type 1} → statement M
 step-spec =
