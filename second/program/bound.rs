@@ -15,12 +15,13 @@ pub fn bound(chart: &Chart, rules: Rules) -> Result<u64, Refusal> {
     let change = change_weight(chart);
     let mut bound = 0;
     for state in &chart.states {
+        // a list without a weight is left only by the fault above
         let outer = list_weight(chart, &weights, &state.outer, rules).ok_or(Refusal::BoundLoop)?;
         let inner = list_weight(chart, &weights, &state.inner, rules).ok_or(Refusal::BoundLoop)?;
         bound += 1 + count(&state.during) + outer + inner + change;
     }
-    let refused_from = LARGEST_BOUND + u64::from(!rules.wrong(Fault::BoundLimitRefused));
-    require(bound < refused_from, Refusal::BoundLimit)?;
+    let largest = LARGEST_BOUND - u64::from(rules.wrong(Fault::BoundLimitRefused));
+    require(bound <= largest, Refusal::BoundLimit)?;
     Ok(bound)
 }
 

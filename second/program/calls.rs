@@ -10,7 +10,7 @@ use super::session;
 use super::trace::Trace;
 
 const LIFTS: u32 = 64;
-const LARGEST_ALLOWANCE: u32 = 1_000_000;
+pub const LARGEST_ALLOWANCE: u32 = 1_000_000;
 
 /// What a packed answer multiplies its fields by.
 pub const ITEMS_WEIGHT: u64 = 256;

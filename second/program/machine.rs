@@ -1,8 +1,9 @@
 //! One step of a chart on one lift's image: start, run, search, fire, leave, enter, blocks and sends.
 //!
-//! Why it ends without using up the machine stack: leaving, entering and running children go down the tree, at most 8
-//! deep. A search goes one call deeper for each segment of its path, at most 128, each of which is an item of the trace.
-//! Both may stand once under each of at most 8 open sends. Loops of junctions and sends end because units pay for them.
+//! Why it ends without using up the machine stack: leaving, entering and running children go down the tree, the root and
+//! at most 8 levels. A search goes one call deeper for each segment of its path, at most 128, each of which is an item of
+//! the trace. Both may stand once in the step itself and once under each of at most 8 open sends. Loops of junctions and
+//! sends end because units pay for them.
 
 use super::chart::{Chart, Destination, Kind, Segment, ROOT};
 use super::faults::{Fault, Rules};

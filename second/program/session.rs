@@ -1,6 +1,6 @@
 //! The session program: a chart and its events in, lines out.
 
-use super::calls::{Calls, BOUND_WEIGHT, ITEMS_WEIGHT, UNITS_WEIGHT};
+use super::calls::{Calls, BOUND_WEIGHT, ITEMS_WEIGHT, LARGEST_ALLOWANCE, UNITS_WEIGHT};
 use super::faults::Fault;
 use super::image::Image;
 use super::refusal::Refusal;
@@ -10,7 +10,6 @@ const LARGEST_INPUT: usize = 16_384;
 const TRACE_BYTES: usize = 1024;
 const EVENT_BYTES: usize = 3;
 const LIFT: u32 = 0;
-const ALLOWANCE: u32 = 1_000_000;
 const BAD_SESSION: &str = "bad session\n";
 
 /// The refusal is the lowest byte of every packed answer.
@@ -56,7 +55,7 @@ fn run_events(calls: &Calls, chart: &[u8], board: &mut [u8], events: &[u8], line
             }
             return;
         };
-        let answer = calls.step(chart, board, &mut trace, LIFT, u32::from(event), ALLOWANCE);
+        let answer = calls.step(chart, board, &mut trace, LIFT, u32::from(event), LARGEST_ALLOWANCE);
         lines.push_str(&event_line(answer, &trace));
         if refusal_of(answer) != 0 && calls.rules().wrong(Fault::RefusalEndsSession) {
             return;
