@@ -1,24 +1,7 @@
 //! The measured programs behind one type: the proved library, the second program and the plain one.
+use crate::library;
 use crate::lifts;
 use crate::second::calls::PAPER;
-
-mod library {
-    extern "C" {
-        pub fn step(
-            chart: *const u8,
-            chart_bytes: usize,
-            board: *mut u8,
-            board_bytes: usize,
-            trace: *mut u8,
-            trace_bytes: usize,
-            lift: u32,
-            event: u32,
-            allowance: u32,
-        ) -> u64;
-        pub fn fresh(chart: *const u8, chart_bytes: usize, board: *mut u8, board_bytes: usize, lift: u32) -> u64;
-        pub fn bound(chart: *const u8, chart_bytes: usize) -> u64;
-    }
-}
 
 /// Chart, board, trace, lift, event, allowance.
 pub type Step = fn(&[u8], &mut [u8], &mut [u8], u32, u32, u32) -> u64;

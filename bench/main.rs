@@ -8,6 +8,8 @@ mod events;
 mod full;
 mod growth;
 mod host;
+#[path = "../second/library.rs"]
+mod library;
 #[path = "plain/lifts.rs"]
 mod lifts;
 mod measure;

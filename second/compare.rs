@@ -3,6 +3,7 @@
 mod draft;
 mod engines;
 mod generate;
+mod library;
 mod met;
 #[path = "../bench/plain/lifts.rs"]
 mod plain;

@@ -1,26 +1,9 @@
 //! The proved calls, the second program and the plain one behind one interface, and what a case leaves of the bytes lent to it.
 use crate::generate::cases::{Call, Case};
+use crate::library;
 use crate::plain;
 use crate::program::calls::Calls;
 use std::ops::Range;
-
-mod proved {
-    extern "C" {
-        pub fn step(
-            chart: *const u8,
-            chart_bytes: usize,
-            board: *mut u8,
-            board_bytes: usize,
-            trace: *mut u8,
-            trace_bytes: usize,
-            lift: u32,
-            event: u32,
-            allowance: u32,
-        ) -> u64;
-        pub fn fresh(chart: *const u8, chart_bytes: usize, board: *mut u8, board_bytes: usize, lift: u32) -> u64;
-        pub fn bound(chart: *const u8, chart_bytes: usize) -> u64;
-    }
-}
 
 /// Something that can answer a case, given the bytes that are lent.
 pub trait Engine {
@@ -35,9 +18,9 @@ impl Engine for Proved {
         let [(c, c_bytes), (b, b_bytes), (t, t_bytes)] = [chart, board, trace].map(Lent::pointer);
         unsafe {
             match case.call {
-                Call::Step => proved::step(c, c_bytes, b, b_bytes, t, t_bytes, case.lift, case.event, case.allowance),
-                Call::Fresh => proved::fresh(c, c_bytes, b, b_bytes, case.lift),
-                Call::Bound => proved::bound(c, c_bytes),
+                Call::Step => library::step(c, c_bytes, b, b_bytes, t, t_bytes, case.lift, case.event, case.allowance),
+                Call::Fresh => library::fresh(c, c_bytes, b, b_bytes, case.lift),
+                Call::Bound => library::bound(c, c_bytes),
             }
         }
     }
