@@ -66,7 +66,7 @@ module _ (c : Chart) (tr : Tree c) (I F : Claim) {sent : Sent}
   unfolding divided
   t-divided st tm = t-if _ (λ e. t-refuse 17 (λ q. omega arith)) (λ e. tm)
 
-  t-instruct : (o : Op) (i : Instruction) (st : Stack) → operandsRight c (opRule o .operands) i ≡ true
+  pub t-instruct : (o : Op) (i : Instruction) (st : Stack) → operandsRight c (opRule o .operands) i ≡ true
       → (Bounded c → isSend o ≡ false) → Performs 0 (instruct sent o i st)
   unfolding instruct opRule isSend operandsRight if_then_else_
   t-instruct C.push i st v q = t-same _

@@ -40,7 +40,7 @@ Going c s im = Good c im × Up c im s
 abbrev pub Path : Chart → List Segment → Type 0
 Path c path = (t : Segment) → Mem t path → t < segments c
 
-abbrev transitCost : Chart → Segment → ℕ
+abbrev pub transitCost : Chart → Segment → ℕ
 transitCost c t = transitionAction c t .count
 
 else-mem : {x : State} {xs : List State} (b : Bool) → Mem x (if b then [] else xs) → Mem x xs
@@ -82,7 +82,7 @@ module _ (c : Chart) (rt : Right c) where
     up-first s u f =
         elim (first-mem f (line c deepest s)) [ inl e ↦ rw e up-root | inr m ↦ up-line deepest s u _ (m .0) ]
 
-    up-arena : (source target : State) (path : List Segment) → Up c im source → Up c im (arena c source target path)
+    pub up-arena : (source target : State) (path : List Segment) → Up c im source → Up c im (arena c source target path)
     unfolding arena common if_then_else_
     up-arena source target path u =
         elim (two (eqb source target && eqb source (common c source target path)))
@@ -97,7 +97,7 @@ module _ (c : Chart) (rt : Right c) where
       (t-action c tr (λ im e. e .moved .sound) (emptied-quiet c rt a im₀) (transitionAction c t)
       (transitionAction-valid c rt t h)))
 
-  t-transits : (a : State) (im₀ : Image) (path : List Segment) → Path c path
+  pub t-transits : (a : State) (im₀ : Image) (path : List Segment) → Path c path
       → Triple (Bounded c) (sumOver (transitCost c) path) (Emptied c a im₀) (each (transit c) path) (λ _. Emptied c a im₀)
   t-transits a im₀ path v = t-each-in (transitCost c) (transit c) path (λ t m. t-transit a im₀ t (v t m))
 

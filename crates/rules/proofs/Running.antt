@@ -22,33 +22,33 @@ use Rattle.rules.proofs.Taken.{Tree, Right, Valid, tree, children-mem, 
 use Rattle.rules.proofs.Weights.{weigh}
 use Rattle.rules.proofs.Triple.{Claim, _⇒_, Triple, t-pre, t-more, t-given, t-give, t-refuse, t-if, t-same, t-bind, t-then, t-done, t-look, t-pay, t-note, t-active, t-each-in}
 use Rattle.rules.proofs.Bounded.{Bounded, falls}
-use Rattle.rules.proofs.Blocks.{Sends, t-unless, t-block, t-sentBy, Quiet, keeps-set, t-condition}
+use Rattle.rules.proofs.Blocks.{How, Sends, t-unless, t-block, t-sentBy, Quiet, keeps-set, t-condition}
 use Rattle.rules.proofs.Shape.{Good, quiet-at, quiet-good}
 use Rattle.rules.proofs.Firing.{Going, Path, t-fire}
 
 -- a path that can be fired
-record Route (c : Chart) (path : List Segment) : Type 0 where
-  inside : Path c path
-  distinct : Bounded c → Distinct path
+pub record Route (c : Chart) (path : List Segment) : Type 0 where
+  pub inside : Path c path
+  pub distinct : Bounded c → Distinct path
 
 -- a path to segment t: each of it weighs more than t
-record Way (c : Chart) (path : List Segment) (t : Segment) : Type 0 where
-  route : Route c path
-  real : t < segments c
-  heavier : Bounded c → (u : Segment) → Mem u path → W c t < W c u
+pub record Way (c : Chart) (path : List Segment) (t : Segment) : Type 0 where
+  pub route : Route c path
+  pub real : t < segments c
+  pub heavier : Bounded c → (u : Segment) → Mem u path → W c t < W c u
 
 -- what a search comes to
-abbrev Got : Chart → State → Found → Claim
+abbrev pub Got : Chart → State → Found → Claim
 Got c p (reached s path) im = Route c path × Going c p im
 Got c p nowhere im = Going c p im
 Got c p ended im = Going c p im
 Got c p cut im = Good c im
 
 -- what a segment that passed costs, and what running a state costs, without its children
-beyond : Chart → Segment → ℕ
+unfoldable pub beyond : Chart → Segment → ℕ
 beyond c t = if endsOnState c t then 0 else sumOver (W c) (own c (destination c t))
 
-passedCost : Chart → Segment → ℕ
+unfoldable pub passedCost : Chart → Segment → ℕ
 passedCost c t = conditionAction c t .count + beyond c t
 
 unfoldable pub runningCost : Chart → State → ℕ
@@ -58,18 +58,18 @@ module _ (c : Chart) (rt : Right c) where
   tr : Tree c
   tr = tree c rt
 
-  abbrev B : Type 0
+  abbrev pub B : Type 0
   B = Bounded c
 
   -- a search from p, and a run of p, for b units: each begins where p is active
-  abbrev Finds : State → ℕ → Doing Found → Type 0
+  abbrev pub Finds : State → ℕ → Doing Found → Type 0
   Finds p b m = Triple B b (Going c p) m (Got c p)
 
-  abbrev Runs : State → ℕ → Done → Type 0
+  abbrev pub Runs : State → ℕ → Done → Type 0
   Runs p b m = Triple B b (Going c p) m (λ _. Good c)
 
   -- the segments that start on an edge of a state, or at a junction
-  starts-path : (k n : ℕ) → Path c (keep (startsAt c k n) (below (segments c)))
+  pub starts-path : (k n : ℕ) → Path c (keep (startsAt c k n) (below (segments c)))
   starts-path k n t m = below-mem (segments c) (keep-mem _ _ m .0)
 
   -- one segment more on a path
@@ -81,7 +81,7 @@ module _ (c : Chart) (rt : Right c) where
         distinct = λ x. distinct-more path t (w .route .distinct x) (λ m. omega (arith, w .heavier x t m));
       }
 
-  further : {path : List Segment} {t : Segment} (u : Segment) → Way c path t → endsOnState c t ≡ false
+  pub further : {path : List Segment} {t : Segment} (u : Segment) → Way c path t → endsOnState c t ≡ false
       → Mem u (own c (destination c t)) → Way c (path ++ (t ∷ [])) u
   unfolding own
   further {path} {t} u w e m =
@@ -94,7 +94,7 @@ module _ (c : Chart) (rt : Right c) where
             [ inl k ↦ omega (arith, w .heavier x v k) | inr k ↦ rw (List·Memᴰ·eq-of-singleton k) lighter ];
       }
 
-  no-way : (t : Segment) → t < segments c → Way c [] t
+  pub no-way : (t : Segment) → t < segments c → Way c [] t
   no-way t h =
       record {
         route = record { inside = λ u m. absurd (List·Memᴰ·not-nil m); distinct = λ x. tt };
@@ -111,11 +111,11 @@ module _ (c : Chart) (rt : Right c) where
   unfolding beyond if_then_else_
   at-junction t e = rw e (omega arith)
 
-  going : {s : State} → s < states c → (λ im. (isActive im s ≡ true) × Good c im) ⇒ Going c s
+  pub going : {s : State} → s < states c → (λ im. (isActive im s ≡ true) × Good c im) ⇒ Going c s
   going h im (on, g) = (g, record { state = h; on = on })
 
   module _ (p : State) where
-    going-quiet : (im₀ im : Image) → Going c p im₀ → Quiet c im₀ im → Going c p im
+    pub going-quiet : (im₀ im : Image) → Going c p im₀ → Quiet c im₀ im → Going c p im
     going-quiet im₀ im (g, u) q =
         (quiet-good c tr im₀ im q g, record { state = u .state; on = quiet-at c tr im₀ im q p (u .state) ∙ u .on })
 
@@ -127,7 +127,7 @@ module _ (c : Chart) (rt : Right c) where
         (t-bind {b′ = 0} (t-condition c tr (λ im g. g .0 .sound) going-quiet (condition c t) (condition-valid c rt t h))
         (λ r. elim r [ ran st ↦ t-same _ | abandoned ↦ t-same _ ])))
 
-    t-passes : (e : ℕ) (t : Segment) → t < segments c
+    pub t-passes : (e : ℕ) (t : Segment) → t < segments c
         → Triple B (condition c t .count) (Going c p) (passes c e t) (λ _. Going c p)
     unfolding passes
     t-passes e t h = t-if _ (λ q. t-holds t h) (λ q. t-same _)
@@ -150,17 +150,19 @@ module _ (c : Chart) (rt : Right c) where
   module _ (sending : Sending) (ss : Sends c (Good c) sending (λ _. Good c)) (e : ℕ) where
     module _ (p : State) (h : p < states c) where
       -- a block that p owns, and what follows it where p is still there
+      pub t-owns : (k : Block) → Valid c k
+          → Triple B (k .count) (Going c p) (perform (sentBy p sending) [] (code c k)) (How (Going c p) (Good c))
+      t-owns k v =
+          t-block c tr (Going c p) (Good c) (keeps-set c tr (λ im g. g .0 .sound) (going-quiet p))
+          (t-sentBy c p (λ im g on. going h im (on, g)) (λ never e b l. t-pre (λ im g. g .0) (ss never e b l))) k v
+
       t-owned : {A : Type 0} {b : ℕ} {Q : A → Claim} {m : Doing A} (k : Block) → Valid c k → (a : A) → Good c ⇒ Q a
           → Triple B b (Going c p) m Q
           → Triple B (k .count + b) (Going c p)
           (perform (sentBy p sending) [] (code c k) >>= (λ r. unlessAbandoned r a (λ _. m))) Q
-      t-owned k v a back tm =
-          t-bind
-          (t-block c tr (Going c p) (Good c) (keeps-set c tr (λ im g. g .0 .sound) (going-quiet p))
-          (t-sentBy c p (λ im g on. going h im (on, g)) (λ never e b l. t-pre (λ im g. g .0) (ss never e b l))) k v)
-          (λ r. t-unless r a back (λ _. tm))
+      t-owned k v a back tm = t-bind (t-owns k v) (λ r. t-unless r a back (λ _. tm))
 
-      t-tries : (f : Segment → Doing Found) (path : List Segment)
+      pub t-tries : (f : Segment → Doing Found) (path : List Segment)
           → ((t : Segment) → Way c path t → Finds p (passedCost c t) (f t)) → (ts : List Segment)
           → ((t : Segment) → Mem t ts → Way c path t) → Finds p (sumOver (W c) ts) (tries c sending e p f ts)
       unfolding tries sumOver
@@ -173,7 +175,7 @@ module _ (c : Chart) (rt : Right c) where
           (λ b. t-bind (t-if b (λ q. tf t w) (λ q. t-same _))
           (λ o. t-next p o (t-tries f path tf ts (λ u m. ways u (List·Memᴰ·tail m)))))))
 
-      t-passed : (n : ℕ) (path : List Segment) (t : Segment) → Way c path t
+      pub t-passed : (n : ℕ) (path : List Segment) (t : Segment) → Way c path t
           → Finds p (passedCost c t) (passed c sending e p n path t)
       unfolding passed passedCost
       t-passed zero path t w = t-refuse 19 (λ q. omega arith)
@@ -187,7 +189,7 @@ module _ (c : Chart) (rt : Right c) where
           (t-tries _ (path ++ (t ∷ [])) (λ u v. t-passed n (path ++ (t ∷ [])) u v) (own c (destination c t))
           (λ u m. further u w q m)))))))
 
-      t-search : (ts : List Segment) → Path c ts → Finds p (sumOver (W c) ts) (search c sending e p ts)
+      pub t-search : (ts : List Segment) → Path c ts → Finds p (sumOver (W c) ts) (search c sending e p ts)
       unfolding search
       t-search ts v = t-tries _ [] (t-passed 128 []) ts (λ t m. no-way t (v t m))
 
@@ -234,7 +236,7 @@ module _ (c : Chart) (rt : Right c) where
             t-more (λ x. omega arith)
             (t-then (t-note duringPoint p) (t-owned (during c p) (during-valid c rt p h) tt (λ im g. g) t-runInside))
 
-    t-run : (d : ℕ) (p : State) → p < states c → Runs p (weigh c (runningCost c) d p) (run c sending e d p)
+    pub t-run : (d : ℕ) (p : State) → p < states c → Runs p (weigh c (runningCost c) d p) (run c sending e d p)
     unfolding run weigh runningCost outer
     t-run zero p h = t-pre (λ im g. g .0) t-done
     t-run (suc d) p h =
@@ -243,7 +245,7 @@ module _ (c : Chart) (rt : Right c) where
         (t-bind (t-search p h (outer c p) (starts-path 0 p))
         (λ o. t-follow p o (λ x. omega arith) (t-runDuring p h (λ s. weigh c (runningCost c) d s) _ (λ s l. t-run d s l)))))
 
-  t-send : (n : ℕ) → Sends c (Good c) (send c n) (λ _. Good c)
+  pub t-send : (n : ℕ) → Sends c (Good c) (send c n) (λ _. Good c)
   unfolding send
   t-send zero never e b h = t-active b (t-refuse 18 (λ q. omega arith)) (λ im z g. g)
   t-send (suc n) never e b h =

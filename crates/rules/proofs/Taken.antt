@@ -13,7 +13,7 @@ use borrow.Author.Tests.{eq-eqb, ne-eqb, eqb-true, eqb-false, leb-true, ltb-true
 use Rattle.rules.specs.Bytes.{unsigned}
 use Rattle.rules.specs.Lists.{if_then_else_, upFrom, downFrom, below, range, within, every, all}
 use Rattle.rules.specs.Chart as C
-use Rattle.rules.specs.Chart.{State, Segment, Chart, Block, Instruction, states, junctions, segments, variables, events, instructions, parent, kind, initial, entry, during, exit, destination, destinationKind, condition, conditionAction, transitionAction, instruction, code, isOneOf, endsOnState, children, childrenDown, over}
+use Rattle.rules.specs.Chart.{State, Segment, Chart, Block, Instruction, states, junctions, segments, variables, events, instructions, parent, kind, initial, entry, during, exit, destination, destinationKind, condition, conditionAction, transitionAction, instruction, code, isOneOf, keepsHistory, endsOnState, children, childrenDown, over}
 use Rattle.rules.specs.Accept as A
 use Rattle.rules.specs.Accept.{opRule, isNone, operandsRight, stateRight, statesRight, segmentRight, everyBlock, blockRight, blocksRight, instructionRight, countsRight, chartRefusal}
 use Rattle.rules.proofs.Laws.{every-at, both, and-left, and-right, two, unless-zero}
@@ -94,6 +94,7 @@ pub record Tree (c : Chart) : Type 0 where
   pub kinds : (s : State) → s < states c → kind c s ≤ 2
   pub leaves : (s : State) → s < states c → kind c s ≡ 0 → length (children c s) ≡ 0
   pub initials : (s : State) → s < states c → isOneOf c s ≡ true → Child c s (initial c s)
+  pub histories : (s : State) → s < states c → isOneOf c s ≡ false → keepsHistory c s ≡ false
 
 module _ (c : Chart) (r : Right c) where
   state-rules : (s : State) → s < states c → stateRight c s ≡ true
@@ -113,6 +114,8 @@ module _ (c : Chart) (r : Right c) where
         kinds = λ s h. leb-true _ _ (each-of _ (state-rules s h) 0 (omega arith));
         leaves = λ s h e. eqb-true _ _ (alike _ (rw (eq-eqb _ _ e) at (each-of _ (state-rules s h) 3 (omega arith))));
         initials = λ s h o. children-mem c s (isIn-mem _ _ (rw o at (each-of _ (state-rules s h) 4 (omega arith))));
+        histories = λ s h o.
+            ne-eqb (C.history c s) 1 (λ q. omega (arith, leb-true (C.history c s) 0 (rw o at (each-of _ (state-rules s h) 5 (omega arith)))));
       }
     where
       count : (1 ≤ states c) × (states c ≤ 64)
@@ -214,8 +217,11 @@ sends-to-state c most i e =
     let (s, b, h, q) = named c most (i .b) (and-right (within 1 (events c) (i .a)) _ e) in
     omega arith
 
+pub operand-names : (c : Chart) → states c ≤ 64 → (i : Instruction) → hasOperands c i ≡ true → i .op ≡ C.send
+    → (s : State) × (i .b ≡ pos s) × (s < states c) × (unsigned 2 (i .b) % 256 ≡ s)
+unfolding opRule operandsRight
+operand-names c most i v e = named c most _ (and-right (within 1 (events c) (i .a)) _ (rw e at v))
+
 pub send-names : (c : Chart) → Right c → (i : ℕ) → i < instructions c → instruction c i .op ≡ C.send
     → (s : State) × (instruction c i .b ≡ pos s) × (s < states c) × (unsigned 2 (instruction c i .b) % 256 ≡ s)
-unfolding opRule operandsRight
-send-names c r i h e =
-    named c (tree c r .most) _ (and-right (within 1 (events c) (instruction c i .a)) _ (rw e at (right-at c r i h)))
+send-names c r i h e = operand-names c (tree c r .most) (instruction c i) (right-at c r i h) e

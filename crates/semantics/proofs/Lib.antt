@@ -1,0 +1,9 @@
+pub mod Inverting
+pub mod Exits
+pub mod Entries
+pub mod Acts
+pub mod Searching
+pub mod Found
+pub mod Sound
+pub mod Complete
+pub mod Exactly
