@@ -18,7 +18,7 @@ use Rattle.rules.specs.Run.{follow, runActive, runChildren, runInside, r
 use Rattle.rules.specs.Bound.{W, G}
 use Rattle.rules.proofs.Members.{Mem, keep-mem, below-mem, first-mem}
 use Rattle.rules.proofs.Distinct.{Distinct, distinct-more, mem-light}
-use Rattle.rules.proofs.Taken.{Tree, Right, Valid, tree, children-mem, during-valid, condition-valid, conditionAction-valid}
+use Rattle.rules.proofs.Taken.{Tree, Right, Valid, tree, to-state, children-mem, during-valid, condition-valid, conditionAction-valid}
 use Rattle.rules.proofs.Weights.{weigh}
 use Rattle.rules.proofs.Triple.{Claim, _⇒_, Triple, t-pre, t-more, t-given, t-give, t-refuse, t-if, t-same, t-bind, t-then, t-done, t-look, t-pay, t-note, t-active, t-each-in}
 use Rattle.rules.proofs.Bounded.{Bounded, falls}
@@ -37,9 +37,14 @@ pub record Way (c : Chart) (path : List Segment) (t : Segment) : Type 0 where
   pub real : t < segments c
   pub heavier : Bounded c → (u : Segment) → Mem u path → W c t < W c u
 
+-- a state that was reached, and the path to it
+pub record Reach (c : Chart) (s : State) (path : List Segment) : Type 0 where
+  pub state : s < states c
+  pub route : Route c path
+
 -- what a search comes to
 abbrev pub Got : Chart → State → Found → Claim
-Got c p (reached s path) im = Route c path × Going c p im
+Got c p (reached s path) im = Reach c s path × Going c p im
 Got c p nowhere im = Going c p im
 Got c p ended im = Going c p im
 Got c p cut im = Good c im
@@ -142,7 +147,7 @@ module _ (c : Chart) (rt : Right c) where
     t-follow : {b : ℕ} (o : Found) {m : Done} → (B → G c ≤ b) → Runs p b m
         → Triple B b (Got c p o) (follow c p o m) (λ _. Good c)
     unfolding follow
-    t-follow (reached s path) l tm = t-more l (t-given (λ r. t-fire c rt p s path (r .inside) (r .distinct)))
+    t-follow (reached s path) l tm = t-more l (t-given (λ r. t-fire c rt p s path (r .route .inside) (r .route .distinct)))
     t-follow nowhere l tm = tm
     t-follow ended l tm = tm
     t-follow cut l tm = t-done
@@ -183,7 +188,7 @@ module _ (c : Chart) (rt : Right c) where
           t-more (λ x. omega arith)
           (t-then (t-note segmentPassed t)
           (t-owned (conditionAction c t) (conditionAction-valid c rt t (w .real)) cut (λ im g. g)
-          (t-if _ (λ q. t-give _ (λ im g. (longer w, g)))
+          (t-if _ (λ q. t-give _ (λ im g. (record { state = to-state c rt t (w .real) q; route = longer w }, g)))
           (λ q. t-if _ (λ z. t-same _)
           (λ z. t-more (λ x. at-junction t q)
           (t-tries _ (path ++ (t ∷ [])) (λ u v. t-passed n (path ++ (t ∷ [])) u v) (own c (destination c t))

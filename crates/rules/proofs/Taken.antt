@@ -140,6 +140,13 @@ module _ (c : Chart) (r : Right c) where
             absurd (omega (arith, ltb-true, eqb-false))
       ]
 
+  -- and one that does ends on one of the chart's
+  pub to-state : (t : Segment) → t < segments c → endsOnState c t ≡ true → destination c t < states c
+  unfolding A.endRight if_then_else_
+  to-state t h e =
+      let other : eqb (destinationKind c t) 1 ≡ false = ne-eqb (destinationKind c t) 1 (λ q. omega (arith, eqb-true (destinationKind c t) 0 e)) in
+      ltb-true _ _ (three (ltb (destinationKind c t) 1) _ _ (rw other at (end-right t h)) .2)
+
 -- a block of an accepted chart: where its instructions stand, and that each has its operands
 abbrev pub hasOperands : Chart → Instruction → Bool
 hasOperands c i = operandsRight c (opRule (i .op) .operands) i

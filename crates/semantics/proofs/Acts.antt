@@ -2,10 +2,9 @@
 -- owner is there, so is the shape. Assumes nothing.
 use mathlib.Core.Path.{_≡_, refl, sym, subst, _∙_}
 use mathlib.Core.Logic.{inl, inr}
-use mathlib.Core.Bool.{Bool, true, false}
+use mathlib.Core.Bool.{true, false}
 use mathlib.Core.List.{List, [], _∷_}
 use Prim.Native.Nat.{ℕ, zero, suc, _%_, _<_}
-use native.Mathlib.Omega.{arith}
 use lib.IntN.{pos}
 use Rattle.rules.specs.Bytes.{unsigned}
 use Rattle.rules.specs.Lists.{if_then_else_, every}
@@ -51,7 +50,8 @@ kind-of i s₁ s₂ st C.send = is-send
 kind-of i s₁ s₂ st C.unknown = is-plain {o = C.unknown} refl refl
 
 -- 002's flag of early return is that the owner is gone
-flag : (p : State) (st : Stack) (im : Image) → (if gone p im then abandoned else ran st) ≡ (if isActive im p then ran st else abandoned)
+flag : (p : State) (st : Stack) (im : Image)
+    → (if gone p im then abandoned else ran st) ≡ (if isActive im p then ran st else abandoned)
 unfolding gone if_then_else_
 flag p st im = elim (two (isActive im p)) [ inl e ↦ rw e | inr e ↦ rw e ]
 
@@ -63,6 +63,11 @@ there p st im e = rw e
 pub data Sending (c : Chart) : (k e : ℕ) (b : State) (n n′ : Now) → Type 0 where
   sent : {k e : ℕ} {b : State} {n n′ : Now} → isActive (n .image) b ≡ true → c ⊢ ⇝runS k e b n n′ → Sending c (suc k) e b n n′
   unsent : {k e : ℕ} {b : State} {n : Now} → isActive (n .image) b ≡ false → Sending c k e b n n
+
+-- each of them that goes comes to that
+abbrev pub SendsSound : Chart → ℕ → Type 0
+SendsSound c k =
+    (e : ℕ) (b : State) (n n′ : Now) → b < states c → Good c (n .image) → Goes (send c k e b) n n′ → Sending c k e b n n′
 
 module _ (c : Chart) (rt : Right c) where
   tr : Tree c
@@ -79,7 +84,8 @@ module _ (c : Chart) (rt : Right c) where
   unsent-goes (suc k) e b a = idle-goes b _ a
 
   -- a send keeps the shape
-  pub send-kept : (k e : ℕ) (b : State) → b < states c → {n n′ : Now} → Goes (send c k e b) n n′ → Good c (n .image) → Good c (n′ .image)
+  send-kept : (k e : ℕ) (b : State) → b < states c → {n n′ : Now} → Goes (send c k e b) n n′ → Good c (n .image)
+      → Good c (n′ .image)
   unfolding send
   send-kept zero e b h {n} w g =
       elim (two (isActive (n .image) b)) [
@@ -101,8 +107,8 @@ module _ (c : Chart) (rt : Right c) where
     abbrev pub Performs : Stack → List Instruction → Now → Ran → Now → Type 0
     Performs st is n r n′ = Gives (perform (sentBy p (send c k)) st is) n r n′
 
-    does-send : (i : Instruction) (st : Stack) {b : State} {n n′ : Now} → unsigned 2 (i .b) % 256 ≡ b → Goes (send c k (i .a) b) n n′
-        → Does i st C.send n (if isActive (n′ .image) p then ran st else abandoned) n′
+    does-send : (i : Instruction) (st : Stack) {b : State} {n n′ : Now} → unsigned 2 (i .b) % 256 ≡ b
+        → Goes (send c k (i .a) b) n n′ → Does i st C.send n (if isActive (n′ .image) p then ran st else abandoned) n′
     unfolding instruct sentBy
     does-send i st {n′ = n′} e w =
         rw (e, ← flag p st (n′ .image)) (bind-goes _ (then-goes w (bind-goes _ look-goes give-goes)) give-goes)
@@ -129,7 +135,8 @@ module _ (c : Chart) (rt : Right c) where
     unfolding noSend if_then_else_
     ins-kept i st {n} {n′} r v g w = go (i .op) refl (kind-of i (sentBy p (send c k)) noSend st (i .op)) w
       where
-        go : (o : Op) → i .op ≡ o → Kind i (sentBy p (send c k)) noSend st o → Does i st o n r n′ → How (Going c p) (Good c) r (n′ .image)
+        go : (o : Op) → i .op ≡ o → Kind i (sentBy p (send c k)) noSend st o → Does i st o n r n′
+            → How (Going c p) (Good c) r (n′ .image)
         go o q is-send u =
             let (s, e, h, to) = operand-names c (tr .most) i v q in
             let (x, y) = did-send i st to u in
@@ -139,21 +146,21 @@ module _ (c : Chart) (rt : Right c) where
               | inr a ↦ rw (← y, a) good
             ]
         go o q (is-plain ne same) u =
+            let right = subst (λ (x : Op). operandsRight c (opRule x .operands) i ≡ true) q v in
             kept (t-instruct c tr (Going c p) (Good c) {sent = noSend} (keeps-set c tr (λ im a. a .0 .sound) (going-quiet c rt p))
-            (λ never e b l. t-same false) o i st (subst (λ (x : Op). operandsRight c (opRule x .operands) i ≡ true) q v) (λ x. ne))
-            (rw same at u) g
+            (λ never e b l. t-same false) o i st right (λ x. ne)) (rw same at u) g
 
-    ins-sound : ((e : ℕ) (b : State) (n n′ : Now) → b < states c → Good c (n .image) → Goes (send c k e b) n n′ → Sending c k e b n n′)
-        → (i : Instruction) (st : Stack) {n n′ : Now} (r : Ran) → hasOperands c i ≡ true → Going c p (n .image)
-        → Does i st (i .op) n r n′ → c ⊢ ⇝i k p st i n n′ r
+    ins-sound : SendsSound c k → (i : Instruction) (st : Stack) {n n′ : Now} (r : Ran) → hasOperands c i ≡ true
+        → Going c p (n .image) → Does i st (i .op) n r n′ → c ⊢ ⇝i k p st i n n′ r
     ins-sound sound i st {n} {n′} r v g w = go (i .op) refl (kind-of i (sentBy p (send c k)) noSend st (i .op)) w
       where
-        of-send : (s : State) (j : ℕ) (m m′ : Now) → i .op ≡ C.send → i .b ≡ pos s → Going c p (m .image) → Sending c j (i .a) s m m′
-            → c ⊢ ⇝i j p st i m m′ (if isActive (m′ .image) p then ran st else abandoned)
+        of-send : (s : State) (j : ℕ) (m m′ : Now) → i .op ≡ C.send → i .b ≡ pos s → Going c p (m .image)
+            → Sending c j (i .a) s m m′ → c ⊢ ⇝i j p st i m m′ (if isActive (m′ .image) p then ran st else abandoned)
         of-send s j m m′ q e a (sent on x) = R.SendF q e on x
         of-send s j m m′ q e a (unsent off) = rw (there p st (m .image) (a .1 .on)) (R.SendN q e off)
 
-        go : (o : Op) → i .op ≡ o → Kind i (sentBy p (send c k)) noSend st o → Does i st o n r n′ → c ⊢ ⇝i k p st i n n′ r
+        go : (o : Op) → i .op ≡ o → Kind i (sentBy p (send c k)) noSend st o → Does i st o n r n′
+            → c ⊢ ⇝i k p st i n n′ r
         go o q is-send u =
             let (s, e, h, to) = operand-names c (tr .most) i v q in
             let (x, y) = did-send i st to u in
@@ -163,10 +170,8 @@ module _ (c : Chart) (rt : Right c) where
             R.Plain plain (subst (λ (x : Op). Gives (instruct noSend x i st) n r n′) (sym q) (rw same at u))
 
     -- a block, from an instruction on
-    pub perform-sound : ((e : ℕ) (b : State) (n n′ : Now) → b < states c → Good c (n .image) → Goes (send c k e b) n n′
-        → Sending c k e b n n′)
-        → (st : Stack) (is : List Instruction) (n n′ : Now) (r : Ran) → every (hasOperands c) is ≡ true → Going c p (n .image)
-        → Performs st is n r n′ → c ⊢ ⇝a k p st is n n′ r
+    pub perform-sound : SendsSound c k → (st : Stack) (is : List Instruction) (n n′ : Now) (r : Ran)
+        → every (hasOperands c) is ≡ true → Going c p (n .image) → Performs st is n r n′ → c ⊢ ⇝a k p st is n n′ r
     unfolding perform every unlessAbandoned
     perform-sound sound st [] n n′ r v g w = let (x, y) = give-inv w in rw (← x, y) R.Skip
     perform-sound sound st (i ∷ is) n n′ r v g w =
@@ -190,7 +195,8 @@ module _ (c : Chart) (rt : Right c) where
     unfolding isSend opRule
     plain-goes i st {n} {n′} {r} ne w = go (i .op) ne (kind-of i (sentBy p (send c k)) noSend st (i .op)) w
       where
-        go : (o : Op) → isSend o ≡ false → Kind i (sentBy p (send c k)) noSend st o → Gives (instruct noSend o i st) n r n′ → Does i st o n r n′
+        go : (o : Op) → isSend o ≡ false → Kind i (sentBy p (send c k)) noSend st o → Gives (instruct noSend o i st) n r n′
+            → Does i st o n r n′
         go o q is-send u = clash refl q
         go o q (is-plain x same) u = rw same u
 
@@ -208,7 +214,8 @@ module _ (c : Chart) (rt : Right c) where
       unfolding perform unlessAbandoned
       cut-goes x = then-goes pd (bind-goes _ x give-goes)
 
-  module _ (k : ℕ) (p b : State) (i : Instruction) (st : Stack) (v : hasOperands c i ≡ true) (q : i .op ≡ C.send) (e : i .b ≡ pos b) where
+  module _ (k : ℕ) (p b : State) (i : Instruction) (st : Stack) (v : hasOperands c i ≡ true) (q : i .op ≡ C.send)
+      (e : i .b ≡ pos b) where
     -- the state that it names
     pub named : (b < states c) × (unsigned 2 (i .b) % 256 ≡ b)
     named =
@@ -222,7 +229,8 @@ module _ (c : Chart) (rt : Right c) where
         subst (λ (o : Op). Does (suc k) p i st o n (if isActive (n′ .image) p then ran st else abandoned) n′) (sym q)
         (does-send (suc k) p i st (named .1) (sent-goes k (i .a) b a w))
 
-    pub unsend-goes : {n : Now} → isActive (n .image) p ≡ true → isActive (n .image) b ≡ false → Does k p i st (i .op) n (ran st) n
+    pub unsend-goes : {n : Now} → isActive (n .image) p ≡ true → isActive (n .image) b ≡ false
+        → Does k p i st (i .op) n (ran st) n
     unsend-goes {n} on a =
         subst (λ (o : Op). Does k p i st o n (ran st) n) (sym q)
         (rw (there p st (n .image) on) at (does-send k p i st (named .1) (unsent-goes k (i .a) b {n = n} a)))

@@ -1,40 +1,40 @@
--- From the rules to the definitions: where 002's rules, as 01 narrows them, go, the definitions go; by the derivation, each rule
--- once. What an arrow means says where it may begin: a run and a search where the state is active and the shape holds, leaving
+-- From the rules to the definitions: where 002's rules, as 01 narrows them, go, the definitions go; by the derivation, rule by
+-- rule. What an arrow means says where it may begin: a run and a search where the state is active and the shape holds, leaving
 -- where that is so from the state on, entering where the image is sound. Assumes nothing.
 use mathlib.Core.Path.{_≡_, refl, sym, _∙_}
-use mathlib.Core.Logic.{inl, inr}
-use mathlib.Core.Bool.{Bool, true, false}
-use mathlib.Core.List.{List, [], _∷_, _++_, List·Memᴰ·head, List·Memᴰ·tail}
+use mathlib.Core.Logic.{inl}
+use mathlib.Core.Bool.{true, false}
+use mathlib.Core.List.{List, [], _∷_, List·Memᴰ·head, List·Memᴰ·tail}
 use Prim.Native.Nat.{ℕ, zero, suc, _+_, _<_}
 use native.Mathlib.Omega.{arith}
 use lib.Dec.{eqb}
 use borrow.Author.Tests.{ne-eqb}
 use Rattle.rules.specs.Lists.{if_then_else_, every, first}
-use Rattle.rules.specs.Chart.{State, Segment, Chart, Instruction, states, segments, exit, entry, during, conditionAction, destination, isOneOf, children, childrenDown, outer, inner, own, code}
-use Rattle.rules.specs.Image.{Image, isActive, notStarted, accepted}
+use Rattle.rules.specs.Chart.{State, Segment, Chart, Instruction, states, segments, during, isOneOf, children, outer, inner, code}
+use Rattle.rules.specs.Image.{isActive, notStarted, accepted}
 use Rattle.rules.specs.Doing.{Now, Done, pay, duringPoint, segmentPassed, note, each, whenActive}
 use Rattle.rules.specs.Block.{Stack, Ran, ran, abandoned, unlessAbandoned, sentBy, instruct, perform}
 use Rattle.rules.specs.Search.{Found, reached, nowhere, ended, cut, passes, search}
 use Rattle.rules.specs.Fire.{levels, leaveEach, noteLeft, leave, enterEach, enter, arena, transit, fire}
 use Rattle.rules.specs.Run.{follow, runActive, runChildren, runInside, runDuring, run, send, start, step}
-use Rattle.rules.proofs.Laws.{two, both, clash}
+use Rattle.rules.proofs.Laws.{both}
 use Rattle.rules.proofs.Members.{Mem, isIn-mem}
 use Rattle.rules.proofs.Taken.{Child, Tree, Right, hasOperands, tree, children-mem, during-valid, conditionAction-valid}
 use Rattle.rules.proofs.Trees.{Deep, deep-child, deep-end}
 use Rattle.rules.proofs.Soundness.{Sound}
-use Rattle.rules.proofs.Blocks.{How}
 use Rattle.rules.proofs.Shape.{Good}
 use Rattle.rules.proofs.Firing.{Going, Path, up-root, up-arena}
-use Rattle.rules.proofs.Running.{Got, no-way, going, t-send, t-owns, t-search, t-run, t-passes}
+use Rattle.rules.proofs.Running.{Reach, Got, no-way, going, t-send, t-owns, t-search, t-run, t-passes}
 use Rattle.rules.proofs.Accepting.{sound, started-good}
 use Rattle.semantics.specs.Relation as R
-use Rattle.semantics.specs.Relation.{Arrow, _⊢_, Gives, Goes, ActiveChild, NoState, failed, terminal}
+use Rattle.semantics.specs.Relation.{Arrow, _⊢_, Gives, Goes, ActiveChild, Descent, tail, towards, NoState, failed, terminal}
 use Rattle.semantics.proofs.Inverting.{kept, paid, noted, then-goes, bind-goes, give-goes, done-goes, look-goes, yes-goes, no-goes, active-goes, idle-goes, none-goes, more-goes}
 use Rattle.semantics.proofs.Exits.{Standing, Remaining, standing-child, standing-first, remaining-rest, left-after, exO-goes, unrecorded-goes, exS1-goes, exA-goes}
-use Rattle.semantics.proofs.Entries.{all-goes, enO1-goes, enO2-goes, enO3-goes, enter-goes, ready-sound, way-child, record-child, no-record, enter-sound}
+use Rattle.semantics.proofs.Towards.{Towards, on-way, off-way, each-way}
+use Rattle.semantics.proofs.Entries.{all-goes, enO1-goes, enO2-goes, enO3-goes, enter-goes, ready-sound, record-child, no-record, enter-sound}
 use Rattle.semantics.proofs.Acts.{named, plain-goes, send-goes, unsend-goes, skip-goes, seq-goes, cut-goes, ins-kept}
-use Rattle.semantics.proofs.Searching.{along, along-nothing, Tried, Ways}
-use Rattle.semantics.proofs.Found.{Passing, Finds, none-tried, fail-goes, reached-stops, ended-stops, cut-stops, next-goes, passing-kept, nowhere-kept, state-goes, early-goes, junction-goes}
+use Rattle.semantics.proofs.Searching.{along-nothing}
+use Rattle.semantics.proofs.Found.{Passing, Finds, none-tried, fail-goes, reached-stops, ended-stops, cut-stops, next-goes, nowhere-kept, state-goes, early-goes, junction-goes}
 use Rattle.semantics.proofs.Sound.{active-child, standing, transit-sound, outer-real, inner-real}
 
 -- the children of p are m levels down; so is each of a list
@@ -61,10 +61,14 @@ Meaning c (R.⇝exSL ps n n′) =
     (d m : ℕ) → m + d ≡ 9 → (p : State) → p < states c → isOneOf c p ≡ false → Down c m p → Remaining c p ps (n .image)
     → Goes (each (λ k. whenActive k (leave c d k)) ps) n n′
 Meaning c (R.⇝enS h p n n′) =
-    (d m : ℕ) → m + d ≡ 9 → p < states c → Deep c m p → Sound c (n .image) → Goes (enter c d h p) n n′
+    (d m : ℕ) → m + d ≡ 9 → (t : State) → t < states c → Towards c t p (tail h) → p < states c → Deep c m p → Sound c (n .image)
+    → Goes (enter c d t p) n n′
 Meaning c (R.⇝enC h p n n′) =
-    (d m : ℕ) → m + d ≡ 9 → p < states c → Down c m p → Sound c (n .image) → Goes (enterEach c (enter c d h) h p) n n′
-Meaning c (R.⇝enSL h ps n n′) = (d m : ℕ) → m + d ≡ 9 → At c m ps → Sound c (n .image) → Goes (each (enter c d h) ps) n n′
+    (d m : ℕ) → m + d ≡ 9 → (t : State) → t < states c → Towards c t p h → p < states c → Down c m p → Sound c (n .image)
+    → Goes (enterEach c (enter c d t) t p) n n′
+Meaning c (R.⇝enSL h ps n n′) =
+    (d m : ℕ) → m + d ≡ 9 → (t : State) → t < states c → ((k : State) → Mem k ps → Towards c t k (tail (towards k h))) → At c m ps
+    → Sound c (n .image) → Goes (each (enter c d t) ps) n n′
 Meaning c (R.⇝runS k e p n n′) = (d m : ℕ) → m + d ≡ 9 → Deep c m p → Going c p (n .image) → Goes (run c (send c k) e d p) n n′
 Meaning c (R.⇝runC k e p n n′) =
     (d m : ℕ) → m + d ≡ 9 → Down c m p → Going c p (n .image) → Goes (runChildren c (run c (send c k) e d) p) n n′
@@ -72,19 +76,26 @@ Meaning c (R.⇝runSL k e ps n n′) =
     (d m : ℕ) → m + d ≡ 9 → At c m ps → Good c (n .image) → Goes (each (λ s. whenActive s (run c (send c k) e d s)) ps) n n′
 Meaning c (R.⇝Ch e n n′) = accepted (n .image) c ≡ true → Goes (step c e) n n′
 
+not-reached : {h : State} {path : List Segment} → reached h path ≡ ended → ⊥
+not-reached e = let z : _≡_ {A = ℕ} 0 1 = cc in omega arith
+
+not-cut : cut ≡ ended → ⊥
+not-cut e = let z : _≡_ {A = ℕ} 0 1 = cc in omega arith
+
 module _ (c : Chart) (rt : Right c) where
   tr : Tree c
   tr = tree c rt
 
-  fire-goes : (p h : State) (path : List Segment) → Path c path → (n n₁ n₂ n₃ : Now) → Going c p (n .image)
-      → Meaning c (R.⇝exC (arena c p h path) n n₁) → Goes (each (transit c) path) n₁ n₂
-      → Meaning c (R.⇝enC h (arena c p h path) n₂ n₃) → Goes (fire c p h path) n n₃
+  fire-goes : (p s : State) (path : List Segment) → Reach c s path → (h : List State) (n n₁ n₂ n₃ : Now) → Going c p (n .image)
+      → Meaning c (R.⇝exC (arena c p s path) n n₁) → Goes (each (transit c) path) n₁ n₂ → Descent c (arena c p s path) h s
+      → Meaning c (R.⇝enC h (arena c p s path) n₂ n₃) → Goes (fire c p s path) n n₃
   unfolding fire
-  fire-goes p h path real n n₁ n₂ n₃ (g, u) x y z =
-      let a = up-arena c rt (n .image) g p h path u in
+  fire-goes p s path r h n n₁ n₂ n₃ (g, u) x y d z =
+      let a = up-arena c rt (n .image) g p s path u in
       let exits = x 9 0 refl (a .state) (λ k ch. tt) (standing c rt g a) in
       then-goes exits
-      (then-goes y (z 9 0 refl (a .state) (λ k ch. tt) (transit-sound c rt (arena c p h path) path real (g .sound) exits y)))
+      (then-goes y (z 9 0 refl s (r .state) (inl d) (a .state) (λ k ch. tt)
+      (transit-sound c rt (arena c p s path) path (r .route .inside) (g .sound) exits y)))
 
   module _ (k e : ℕ) (p : State) where
     -- what a state's list finds
@@ -139,7 +150,8 @@ module _ (c : Chart) (rt : Right c) where
 
       -- no state by the outer list
       outer-none : {n n₁ n₂ n₃ : Now} (o : Found) → Goes pay n n₁ → Going c p (n .image) → Finds c k e p 0 (outer c p) n₁ n₂ o
-          → NoState o → (Going c p (n₂ .image) → Goes (runDuring c (send c k) e f p) n₂ n₃) → Goes (run c (send c k) e (suc d) p) n n₃
+          → NoState o → (Going c p (n₂ .image) → Goes (runDuring c (send c k) e f p) n₂ n₃)
+          → Goes (run c (send c k) e (suc d) p) n n₃
       outer-none {n} {n₁} {n₂} o pd g x s w =
           let real = outer-real c rt p in
           let g₁ = paid (Going c p) pd g in
@@ -153,7 +165,8 @@ module _ (c : Chart) (rt : Right c) where
       during-goes r i a w = then-goes i (bind-goes _ a w)
 
       ran-goes : (st : Stack) (o : Found) {n n₁ n₂ : Now} → Gives (search c (send c k) e p (inner c p)) n o n₁
-          → Goes (follow c p o (runChildren c f p)) n₁ n₂ → Goes (unlessAbandoned (ran st) tt (λ _. runInside c (send c k) e f p)) n n₂
+          → Goes (follow c p o (runChildren c f p)) n₁ n₂
+          → Goes (unlessAbandoned (ran st) tt (λ _. runInside c (send c k) e f p)) n n₂
       unfolding unlessAbandoned runInside
       ran-goes st o x w = bind-goes _ x w
 
@@ -163,7 +176,8 @@ module _ (c : Chart) (rt : Right c) where
 
     -- p is there behind its during action
     during-kept : {n n₁ n₂ : Now} {st : Stack} → Goes (note duringPoint p) n n₁
-        → Gives (perform (sentBy p (send c k)) [] (code c (during c p))) n₁ (ran st) n₂ → Going c p (n .image) → Going c p (n₂ .image)
+        → Gives (perform (sentBy p (send c k)) [] (code c (during c p))) n₁ (ran st) n₂ → Going c p (n .image)
+        → Going c p (n₂ .image)
     during-kept i a g =
         kept (t-owns c rt (send c k) (t-send c rt k) e p (g .1 .state) (during c p) (during-valid c rt p (g .1 .state))) a
         (noted (Going c p) duringPoint p i g)
@@ -172,7 +186,8 @@ module _ (c : Chart) (rt : Right c) where
     after-during : (d : ℕ) (o : Found) {n n₁ n₂ n₃ n₄ n₅ : Now} {st : Stack} → Goes pay n n₁ → Going c p (n .image)
         → Finds c k e p 0 (outer c p) n₁ n₂ o → NoState o → Goes (note duringPoint p) n₂ n₃
         → Meaning c (R.⇝a k p [] (code c (during c p)) n₃ n₄ (ran st))
-        → (Going c p (n₄ .image) → Goes (unlessAbandoned (ran st) tt (λ _. runInside c (send c k) e (run c (send c k) e d) p)) n₄ n₅)
+        → (Going c p (n₄ .image)
+        → Goes (unlessAbandoned (ran st) tt (λ _. runInside c (send c k) e (run c (send c k) e d) p)) n₄ n₅)
         → Goes (run c (send c k) e (suc d) p) n n₅
     after-during d o pd g x s i a w =
         outer-none d o pd g x s (λ g₂.
@@ -180,26 +195,29 @@ module _ (c : Chart) (rt : Right c) where
         during-goes d _ i a′ (w (during-kept i a′ g₂)))
 
     -- a path is found, and fired
-    fires : (ts : List Segment) → Path c ts → (m : Done) (h : State) (path : List Segment) (n n₁ n₂ n₃ n₄ : Now) → Going c p (n .image)
-        → Gives (search c (send c k) e p ts) n (reached h path) n₁ → Meaning c (R.⇝exC (arena c p h path) n₁ n₂)
-        → Goes (each (transit c) path) n₂ n₃ → Meaning c (R.⇝enC h (arena c p h path) n₃ n₄)
-        → Goes (follow c p (reached h path) m) n₁ n₄
-    fires ts real m h path n n₁ n₂ n₃ n₄ g y x a z =
+    fires : (ts : List Segment) → Path c ts → (m : Done) (s : State) (path : List Segment) (h : List State) (n n₁ n₂ n₃ n₄ : Now)
+        → Going c p (n .image) → Gives (search c (send c k) e p ts) n (reached s path) n₁
+        → Meaning c (R.⇝exC (arena c p s path) n₁ n₂) → Goes (each (transit c) path) n₂ n₃ → Descent c (arena c p s path) h s
+        → Meaning c (R.⇝enC h (arena c p s path) n₃ n₄) → Goes (follow c p (reached s path) m) n₁ n₄
+    fires ts real m s path h n n₁ n₂ n₃ n₄ g y x a d z =
         let (r, g₁) = searched-kept ts real y g in
-        follow-state h path m (fire-goes p h path (r .inside) n₁ n₂ n₃ n₄ g₁ x a z)
+        follow-state s path m (fire-goes p s path r h n₁ n₂ n₃ n₄ g₁ x a d z)
 
     runO-goes : (d : ℕ) {q : State} {n n′ : Now} → isOneOf c p ≡ true → Going c p (n .image) → ActiveChild c (n .image) p q
-        → (Going c q (n .image) → Child c p q → Goes (run c (send c k) e d q) n n′) → Goes (runChildren c (run c (send c k) e d) p) n n′
+        → (Going c q (n .image) → Child c p q → Goes (run c (send c k) e d q) n n′)
+        → Goes (runChildren c (run c (send c k) e d) p) n n′
     unfolding runChildren runActive
     runO-goes d {q} {n} {n′} o g a w =
         let (q′, ch′, on, is, only) = active-child c rt p (n .image) g o in
         let ch = children-mem c p (isIn-mem q (children c p) (a .child)) in
         let same : first (isActive (n .image)) (children c p) ≡ q = is ∙ sym (only q ch (a .active)) in
         let v = w (going c rt (ch .state) (n .image) (a .active, g .0)) ch in
-        yes-goes _ _ _ o (bind-goes _ look-goes (no-goes _ _ _ (ne-eqb (first (isActive (n .image)) (children c p)) 0 (λ z. omega arith)) (rw same v)))
+        let some : eqb (first (isActive (n .image)) (children c p)) 0 ≡ false = rw same (ne-eqb q 0 (λ z. omega arith)) in
+        yes-goes _ _ _ o (bind-goes _ look-goes (no-goes _ _ _ some (rw same v)))
 
     runA-goes : (d : ℕ) {n n′ : Now} → isOneOf c p ≡ false
-        → Goes (each (λ s. whenActive s (run c (send c k) e d s)) (children c p)) n n′ → Goes (runChildren c (run c (send c k) e d) p) n n′
+        → Goes (each (λ s. whenActive s (run c (send c k) e d s)) (children c p)) n n′
+        → Goes (runChildren c (run c (send c k) e d) p) n n′
     unfolding runChildren
     runA-goes d o w = no-goes _ _ _ o w
 
@@ -228,67 +246,47 @@ module _ (c : Chart) (rt : Right c) where
   unfolding step start if_then_else_
   start-goes e s w = record { is = rw s (w .is) }
 
-  step-goes : (e : ℕ) {n n′ : Now} → notStarted (n .image) ≡ false → Goes (run c (send c 8) e levels 0) n n′ → Goes (step c e) n n′
+  step-goes : (e : ℕ) {n n′ : Now} → notStarted (n .image) ≡ false → Goes (run c (send c 8) e levels 0) n n′
+      → Goes (step c e) n n′
   unfolding step if_then_else_
   step-goes e s w = record { is = rw s (w .is) }
 
-not-reached : {h : State} {path : List Segment} → reached h path ≡ ended → ⊥
-not-reached e = let z : _≡_ {A = ℕ} 0 1 = cc in omega arith
-
-not-cut : cut ≡ ended → ⊥
-not-cut e = let z : _≡_ {A = ℕ} 0 1 = cc in omega arith
-
-module _ (c : Chart) (rt : Right c) where
   -- each rule
   goes : {j : Arrow} → c ⊢ j → Meaning c j
   goes (R.SendF {k = k} {p = p} {b = b} {st = st} {i = i} {n = n} q to on x) = λ v g.
-      send-goes c rt k p b i st v q to on (goes x 9 0 refl tt (going c rt (named c rt k p b i st v q to .0) (n .image) (on, g .0)))
+      let state = named c rt k p b i st v q to .0 in
+      send-goes c rt k p b i st v q to on (goes x 9 0 refl tt (going c rt state (n .image) (on, g .0)))
   goes (R.SendN {k = k} {p = p} {b = b} {st = st} {i = i} q to off) = λ v g. unsend-goes c rt k p b i st v q to (g .1 .on) off
   goes (R.Plain {k = k} {p = p} {st = st} {i = i} ne w) = λ v g. plain-goes c rt k p i st ne w
   goes (R.Skip {k = k} {p = p} {st = st}) = λ v g. skip-goes c rt k p st
   goes (R.SeqT {k = k} {p = p} {st = st} {st₁ = st₁} {i = i} {is = is} pd x y) = λ v g.
-      let (v₁, v₂) = here c rt i is v in
+      let (v₁, v₂) = here i is v in
       let g₁ = paid (Going c p) pd g in
       let x′ = goes x v₁ g₁ in
       seq-goes c rt k p i is st pd x′ (goes y v₂ (ins-kept c rt k p i st (ran st₁) v₁ g₁ x′))
   goes (R.SeqF {k = k} {p = p} {st = st} {i = i} {is = is} pd x) = λ v g.
-      cut-goes c rt k p i is st pd (goes x (here c rt i is v .0) (paid (Going c p) pd g))
+      cut-goes c rt k p i is st pd (goes x (here i is v .0) (paid (Going c p) pd g))
   goes (R.TrT {e = e} {p = p} {t = t} x l i a) = λ real g.
       let valid = conditionAction-valid c rt t real in
-      let g₂ = passed-going c rt p e t real x i g in
+      let g₂ = passed-going p e t real x i g in
       record { n₁ = _; n₂ = _; how = _; enabled = x; few = l; noted = i; acted = goes a (valid .operands) g₂; says = refl }
   goes (R.TrF {e = e} {p = p} {t = t} x l i a) = λ real g.
       let valid = conditionAction-valid c rt t real in
-      let g₂ = passed-going c rt p e t real x i g in
+      let g₂ = passed-going p e t real x i g in
       record { n₁ = _; n₂ = _; how = _; enabled = x; few = l; noted = i; acted = goes a (valid .operands) g₂; says = refl }
   goes (R.ToS {k = k} {e = e} {l = l} {p = p} {t = t} {ts = ts} pd x s) = λ m path z q ways g.
-      state-goes c rt k e p l t m path ts z q pd (goes x (ways t (List·Memᴰ·head refl) .real) (paid (Going c p) pd g)) s
+      state-goes c rt k e p l t m path ts z q ways pd g (goes x) s
   goes (R.ToJ1 {k = k} {e = e} {l = l} {p = p} {d = d} {t = t} {ts = ts} {path = rest} pd x s y) = λ m path z q ways g.
-      let way = ways t (List·Memᴰ·head refl) in
-      let g₁ = paid (Going c p) pd g in
-      let x′ = goes x (way .real) g₁ in
-      junction-goes c rt k e p l t m path ts z q pd (reached d rest) x′ s way (passing-kept c rt k e p l t (way .real) x′ g₁) (goes y)
-      (reached-stops c k e p _)
+      junction-goes c rt k e p l t m path ts z q ways pd g (reached d rest) (goes x) s (goes y) (λ g₂ few. reached-stops c k e p _)
   goes (R.ToJ2 {k = k} {e = e} {l = l} {p = p} {t = t} {t′ = t′} {ts = ts} {n₂ = n₂} {n₃ = n₃} pd x s y w) = λ m path z q ways g.
-      let way = ways t (List·Memᴰ·head refl) in
-      let g₁ = paid (Going c p) pd g in
-      let x′ = goes x (way .real) g₁ in
-      let g₂ = passing-kept c rt k e p l t (way .real) x′ g₁ in
-      junction-goes c rt k e p l t m path (t′ ∷ ts) z q pd nowhere x′ s way g₂ (goes y)
-      (next-goes c k e p _ (goes w m path z q (λ u i. ways u (List·Memᴰ·tail i))
-      (nowhere-kept c rt k e p l t path n₂ n₃ z (x′ .few) way s g₂ (goes y))))
+      junction-goes c rt k e p l t m path (t′ ∷ ts) z q ways pd g nowhere (goes x) s (goes y) (λ g₂ few.
+      let g₃ = nowhere-kept c rt k e p l t path n₂ n₃ z few (ways t (List·Memᴰ·head refl)) s g₂ (goes y) in
+      next-goes c k e p _ (goes w m path z q (λ u i. ways u (List·Memᴰ·tail i)) g₃))
   goes (R.ToJ3 {k = k} {e = e} {l = l} {p = p} {t = t} pd x s y) = λ m path z q ways g.
-      let way = ways t (List·Memᴰ·head refl) in
-      let g₁ = paid (Going c p) pd g in
-      let x′ = goes x (way .real) g₁ in
-      junction-goes c rt k e p l t m path [] z q pd nowhere x′ s way (passing-kept c rt k e p l t (way .real) x′ g₁) (goes y)
-      (next-goes c k e p _ (none-tried c k e p m path))
+      junction-goes c rt k e p l t m path [] z q ways pd g nowhere (goes x) s (goes y)
+      (λ g₂ few. next-goes c k e p _ (none-tried c k e p m path))
   goes (R.ToJ4 {k = k} {e = e} {l = l} {p = p} {t = t} {ts = ts} pd x s y) = λ m path z q ways g.
-      let way = ways t (List·Memᴰ·head refl) in
-      let g₁ = paid (Going c p) pd g in
-      let x′ = goes x (way .real) g₁ in
-      junction-goes c rt k e p l t m path ts z q pd ended x′ s way (passing-kept c rt k e p l t (way .real) x′ g₁) (goes y)
-      (ended-stops c k e p _)
+      junction-goes c rt k e p l t m path ts z q ways pd g ended (goes x) s (goes y) (λ g₂ few. ended-stops c k e p _)
   goes (R.Ind {k = k} {e = e} {p = p} {t = t} {t′ = t′} {ts = ts} pd x w) = λ m path z q ways g.
       let way = ways t (List·Memᴰ·head refl) in
       fail-goes c k e p m path (t′ ∷ ts) t pd x (goes w m path z q (λ u i. ways u (List·Memᴰ·tail i))
@@ -297,13 +295,9 @@ module _ (c : Chart) (rt : Right c) where
       fail-goes c k e p m path [] t pd x (none-tried c k e p m path)
   goes R.Ter = (refl, refl)
   goes (R.ToE1 {k = k} {e = e} {l = l} {p = p} {t = t} {ts = ts} pd x) = λ m path z q ways g.
-      early-goes c rt k e p l t m path ts z q pd (goes x (ways t (List·Memᴰ·head refl) .real) (paid (Going c p) pd g))
+      early-goes c rt k e p l t m path ts z q ways pd g (goes x)
   goes (R.ToE2 {k = k} {e = e} {l = l} {p = p} {t = t} {ts = ts} pd x s y) = λ m path z q ways g.
-      let way = ways t (List·Memᴰ·head refl) in
-      let g₁ = paid (Going c p) pd g in
-      let x′ = goes x (way .real) g₁ in
-      junction-goes c rt k e p l t m path ts z q pd cut x′ s way (passing-kept c rt k e p l t (way .real) x′ g₁) (goes y)
-      (cut-stops c k e p _)
+      junction-goes c rt k e p l t m path ts z q ways pd g cut (goes x) s (goes y) (λ g₂ few. cut-stops c k e p _)
   goes (R.exS1 {p = p} pd x a o i) = λ d m l h deep s n″ r.
       exS1-goes c rt pd (λ d′ m′ l′ down. goes x d′ m′ l′ h down (paid (Standing c p) pd s)) a o i r d m l h deep
   goes (R.exO {p = p} {q = q} {n = n} {n₂ = n₂} o a x r) = λ d m l h deep s.
@@ -316,66 +310,75 @@ module _ (c : Chart) (rt : Right c) where
       let le = left-after c rt d m l (ch .above) (ch .state) (deep k ch) (r .sound) v in
       more-goes _ k ks (active-goes k _ (r .on k (List·Memᴰ·head refl)) v) (goes y d m l p h o deep (remaining-rest c rt r le))
   goes (R.exA {p = p} o x) = λ d m l h deep s. exA-goes c rt d h o s (λ r. goes x d m l p h o deep r)
-  goes (R.enS {h = h} {p = p} pd o i a x) = λ d m l q deep s.
-      enS-goes c rt h p (λ d′ m′ l′ down. enter-goes c rt d′ h p pd o i a (goes x d′ m′ l′ q down (ready-sound c rt q pd o i a s)))
-      d m l q deep
-  goes (R.enO1 {h = h} {p = p} o z x) = λ d m l q deep s.
-      let ch = way-child c rt p h z in
-      enO1-goes c (enter c d h) h p o z (goes x d m l (ch .state) (deep _ ch) s)
-  goes (R.enO2 {h = h} {p = p} o z kh y x) = λ d m l q deep s.
+  goes (R.enS {p = p} pd o i a x) = λ d m l t real way q deep s.
+      enS-goes t p (λ d′ m′ l′ down.
+      enter-goes c rt d′ t p pd o i a (goes x d′ m′ l′ t real way q down (ready-sound c rt q pd o i a s))) d m l q deep
+  goes (R.enO1 {p = p} {q = k} o x) = λ d m l t real way q deep s.
+      let (e, ch, b, next) = on-way c rt t real way in
+      enO1-goes c (enter c d t) t p o e (ch .above) (goes x d m l t real next (ch .state) (deep k ch) s)
+  goes (R.enO2 {p = p} o kh y x) = λ d m l t real way q deep s.
+      let (e, off) = off-way c rt t real way in
       let ch = record-child c rt q s y .1 in
-      enO2-goes c (enter c d h) h p o z y (goes x d m l (ch .state) (deep _ ch) s)
-  goes (R.enO3 {h = h} {p = p} o z y x) = λ d m l q deep s.
+      enO2-goes c (enter c d t) t p o e y (goes x d m l t real (off _ ch) (ch .state) (deep _ ch) s)
+  goes (R.enO3 {p = p} o y x) = λ d m l t real way q deep s.
+      let (e, off) = off-way c rt t real way in
       let ch = tree c rt .initials p q o in
-      enO3-goes c (enter c d h) h p o z (no-record c rt q s y) (goes x d m l (ch .state) (deep _ ch) s)
-  goes R.enSL0 = λ d m l at s. none-goes _
-  goes (R.enSL {h = h} {p = p} {ps = ps} {n = n} {n₁ = n₁} x y) = λ d m l at s.
+      enO3-goes c (enter c d t) t p o e (no-record c rt q s y) (goes x d m l t real (off _ ch) (ch .state) (deep _ ch) s)
+  goes R.enSL0 = λ d m l t real ways at s. none-goes _
+  goes (R.enSL {h = h} {ps = ps} {p = p} {n = n} {n₁ = n₁} x y) = λ d m l t real ways at s.
       let (q, deep) = at p (List·Memᴰ·head refl) in
-      let v = goes x d m l q deep s in
-      more-goes _ p ps v (goes y d m l (at-rest c rt m p ps at) (enter-sound c rt d m l h p q deep n n₁ v s .1))
-  goes (R.enA {h = h} {p = p} o x) = λ d m l q deep s. all-goes c (enter c d h) h p o (goes x d m l (at-children c rt m p deep) s)
-  goes (R.runS {k = k} {e = e} {p = p} {h = h} {path = path} {n = n} {n₁ = n₁} {n₂ = n₂} {n₃ = n₃} {n₄ = n₄} {n₅ = n₅} pd x ex a en) =
-      level c rt k e p n n₅ (λ d m l deep g.
+      let way = ways p (List·Memᴰ·head refl) in
+      let v = goes x d m l t real way q deep s in
+      more-goes _ p ps v (goes y d m l t real (λ k i. ways k (List·Memᴰ·tail i)) (at-rest m p ps at)
+      (enter-sound c rt t real d m l p (towards p h) way q deep n n₁ v s .1))
+  goes (R.enA {h = h} {p = p} o x) = λ d m l t real way q deep s.
+      let ways : (k : State) → Mem k (children c p) → Towards c t k (tail (towards k h)) =
+      λ k i. each-way c rt t real h way k (children-mem c p i) in
+      all-goes c (enter c d t) t p o (goes x d m l t real ways (at-children m p deep) s)
+  goes (R.runS {k = k} {e = e} {p = p} {s = s} {path = path} {h = h} {n = n} {n₁ = n₁} {n₂ = n₂} {n₃ = n₃} {n₄ = n₄} {n₅ = n₅}
+      pd x ex a way en) =
+      level k e p n n₅ (λ d m l deep g.
       let g₁ = paid (Going c p) pd g in
-      let y = found c rt k e p (outer c p) (outer-real c rt p) n₁ n₂ _ not-reached (goes x) g₁ in
-      run-goes c rt k e p d _ pd y
-      (fires c rt k e p (outer c p) (outer-real c rt p) _ h path n₁ n₂ n₃ n₄ n₅ g₁ y (goes ex) a (goes en)))
-  goes (R.runS2 {k = k} {e = e} {p = p} {h = h} {path = path} {o = o} {st = st} {n = n} {n₄ = n₄} {n₅ = n₅} {n₆ = n₆} {n₇ = n₇} {n₈ = n₈}
-      pd x s i b y ex a en) =
-      level c rt k e p n n₈ (λ d m l deep g. after-during c rt k e p d o pd g (goes x) s i (goes b) (λ g₄.
-      let z = found c rt k e p (inner c p) (inner-real c rt p) n₄ n₅ _ not-reached (goes y) g₄ in
-      ran-goes c rt k e p d st _ z
-      (fires c rt k e p (inner c p) (inner-real c rt p) _ h path n₄ n₅ n₆ n₇ n₈ g₄ z (goes ex) a (goes en))))
+      let y = found k e p (outer c p) (outer-real c rt p) n₁ n₂ _ not-reached (goes x) g₁ in
+      run-goes k e p d _ pd y
+      (fires k e p (outer c p) (outer-real c rt p) _ s path h n₁ n₂ n₃ n₄ n₅ g₁ y (goes ex) a way (goes en)))
+  goes (R.runS2 {k = k} {e = e} {p = p} {s = s} {path = path} {h = h} {o = o} {st = st} {n = n} {n₄ = n₄} {n₅ = n₅} {n₆ = n₆}
+      {n₇ = n₇} {n₈ = n₈} pd x none i b y ex a way en) =
+      level k e p n n₈ (λ d m l deep g. after-during k e p d o pd g (goes x) none i (goes b) (λ g₄.
+      let z = found k e p (inner c p) (inner-real c rt p) n₄ n₅ _ not-reached (goes y) g₄ in
+      ran-goes k e p d st _ z
+      (fires k e p (inner c p) (inner-real c rt p) _ s path h n₄ n₅ n₆ n₇ n₈ g₄ z (goes ex) a way (goes en))))
   goes (R.runS3 {k = k} {e = e} {p = p} {o = o} {o′ = o′} {st = st} {n = n} {n₄ = n₄} {n₅ = n₅} {n₆ = n₆} pd x s i b y s′ w) =
-      level c rt k e p n n₆ (λ d m l deep g. after-during c rt k e p d o pd g (goes x) s i (goes b) (λ g₄.
-      let (o″, s″, z) = none-found c rt k e p (inner c p) (inner-real c rt p) n₄ n₅ o′ s′ (goes y) g₄ in
-      ran-goes c rt k e p d st o″ z
-      (follow-none c rt k e p o″ _ s″ (searched-kept c rt k e p (inner c p) (inner-real c rt p) z g₄) (λ g₅. goes w d m l deep g₅))))
+      level k e p n n₆ (λ d m l deep g. after-during k e p d o pd g (goes x) s i (goes b) (λ g₄.
+      let (o″, s″, z) = none-found k e p (inner c p) (inner-real c rt p) n₄ n₅ o′ s′ (goes y) g₄ in
+      ran-goes k e p d st o″ z
+      (follow-none k e p o″ _ s″ (searched-kept k e p (inner c p) (inner-real c rt p) z g₄) (λ g₅. goes w d m l deep g₅))))
   goes (R.runO {k = k} {e = e} {p = p} o a x) = λ d m l deep g.
-      runO-goes c rt k e p d o g a (λ gq ch. goes x d m l (deep _ ch) gq)
+      runO-goes k e p d o g a (λ gq ch. goes x d m l (deep _ ch) gq)
   goes R.runSL0 = λ d m l at g. none-goes _
   goes (R.runSL {k = k} {e = e} {p = p} {ps = ps} {n = n} a x y) = λ d m l at g.
       let (h, deep) = at p (List·Memᴰ·head refl) in
       let gp = going c rt h (n .image) (a, g) in
       let v = goes x d m l deep gp in
       more-goes _ p ps (active-goes p _ a v)
-      (goes y d m l (at-rest c rt m p ps at) (kept (t-run c rt (send c k) (t-send c rt k) e d p h) v gp))
-  goes (R.runSLN {p = p} {ps = ps} a y) = λ d m l at g. more-goes _ p ps (idle-goes p _ a) (goes y d m l (at-rest c rt m p ps at) g)
+      (goes y d m l (at-rest m p ps at) (kept (t-run c rt (send c k) (t-send c rt k) e d p h) v gp))
+  goes (R.runSLN {p = p} {ps = ps} a y) = λ d m l at g. more-goes _ p ps (idle-goes p _ a) (goes y d m l (at-rest m p ps at) g)
   goes (R.runA {k = k} {e = e} {p = p} o x) = λ d m l deep g.
-      runA-goes c rt k e p d o (goes x d m l (at-children c rt m p deep) (g .0))
-  goes (R.runE1 {k = k} {e = e} {p = p} {n = n} {n₁ = n₁} {n₂ = n₂} pd x) = level c rt k e p n n₂ (λ d m l deep g.
-      run-goes c rt k e p d cut pd (found c rt k e p (outer c p) (outer-real c rt p) n₁ n₂ cut not-cut (goes x) (paid (Going c p) pd g))
-      (follow-cut c rt k e p _))
-  goes (R.runE2 {k = k} {e = e} {p = p} {o = o} {n = n} {n₄ = n₄} pd x s i b) = level c rt k e p n n₄ (λ d m l deep g.
-      outer-none c rt k e p d o pd g (goes x) s (λ g₂. during-goes c rt k e p d abandoned i
-      (goes b (during-valid c rt p (g .1 .state) .operands) (noted (Going c p) duringPoint p i g₂)) (abandoned-goes c rt k e p d)))
-  goes (R.runE3 {k = k} {e = e} {p = p} {o = o} {st = st} {n = n} {n₄ = n₄} {n₅ = n₅} pd x s i b y) = level c rt k e p n n₅ (λ d m l deep g.
-      after-during c rt k e p d o pd g (goes x) s i (goes b) (λ g₄.
-      ran-goes c rt k e p d st cut (found c rt k e p (inner c p) (inner-real c rt p) n₄ n₅ cut not-cut (goes y) g₄) (follow-cut c rt k e p _)))
+      runA-goes k e p d o (goes x d m l (at-children m p deep) (g .0))
+  goes (R.runE1 {k = k} {e = e} {p = p} {n = n} {n₁ = n₁} {n₂ = n₂} pd x) = level k e p n n₂ (λ d m l deep g.
+      run-goes k e p d cut pd (found k e p (outer c p) (outer-real c rt p) n₁ n₂ cut not-cut (goes x) (paid (Going c p) pd g))
+      (follow-cut k e p _))
+  goes (R.runE2 {k = k} {e = e} {p = p} {o = o} {n = n} {n₄ = n₄} pd x s i b) = level k e p n n₄ (λ d m l deep g.
+      outer-none k e p d o pd g (goes x) s (λ g₂. during-goes k e p d abandoned i
+      (goes b (during-valid c rt p (g .1 .state) .operands) (noted (Going c p) duringPoint p i g₂)) (abandoned-goes k e p d)))
+  goes (R.runE3 {k = k} {e = e} {p = p} {o = o} {st = st} {n = n} {n₄ = n₄} {n₅ = n₅} pd x s i b y) =
+      level k e p n n₅ (λ d m l deep g. after-during k e p d o pd g (goes x) s i (goes b) (λ g₄.
+      ran-goes k e p d st cut (found k e p (inner c p) (inner-real c rt p) n₄ n₅ cut not-cut (goes y) g₄) (follow-cut k e p _)))
   goes (R.Ch {e = e} {n = n} s x) = λ a.
       let g = started-good c (n .image) a s in
-      step-goes c rt e s (goes x 9 0 refl tt (g, up-root c rt (n .image) g))
-  goes (R.Start {e = e} {n = n} s x) = λ a. start-goes c rt e s (goes x 9 0 refl (tree c rt .some) tt (sound c (n .image) a))
+      step-goes e s (goes x 9 0 refl tt (g, up-root c rt (n .image) g))
+  goes (R.Start {e = e} {n = n} s x) = λ a. start-goes e s
+      (goes x 9 0 refl 0 (tree c rt .some) (inl R.here) (tree c rt .some) tt (sound c (n .image) a))
 
   pub run-complete : (k e : ℕ) (p : State) (n n′ : Now) → Going c p (n .image) → c ⊢ R.⇝runS k e p n n′
       → Goes (run c (send c k) e levels p) n n′

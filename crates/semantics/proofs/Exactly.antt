@@ -1,6 +1,6 @@
--- The definitions are 002's rules, as 01 narrows them. For a chart that is taken and an image that is accepted: a step goes from n
--- to n′ exactly if the rules do; the rules lead to one place at most; a step is refused exactly if they lead nowhere; and so of
--- the whole call. Assumes nothing.
+-- The definitions are 002's rules, as 01 narrows them. For a chart that is taken and an image that is accepted: a step goes from
+-- n to n′ exactly if the rules do; the rules lead to one place at most; a step is refused exactly if they lead nowhere; and the
+-- whole call answers so. Assumes nothing.
 use mathlib.Core.Path.{_≡_, refl, sym, _∙_}
 use mathlib.Core.Logic.{_↔_, _⊎_, inl, inr}
 use mathlib.Core.Bool.{true, false}
@@ -12,9 +12,9 @@ use Rattle.rules.specs.Image.{isActive, notStarted, accepted}
 use Rattle.rules.specs.Doing.{Refusal, Now, Outcome, refused, went}
 use Rattle.rules.specs.Fire.{levels}
 use Rattle.rules.specs.Run.{run, send, step}
-use Rattle.rules.specs.Calls.{Board, part, partRefusal, begin, numberOnly, stepRefusal, stepAnswer, stepTested, stepCall}
+use Rattle.rules.specs.Calls.{Board, Answer, part, partRefusal, begin, numberOnly, stepRefusal, stepAnswer, stepTested, stepCall}
 use Rattle.rules.proofs.Laws.{else-zero, unless-zero}
-use Rattle.rules.proofs.Taken.{Right, right}
+use Rattle.rules.proofs.Taken.{right}
 use Rattle.rules.proofs.Refusing.{Executing, step-refuses}
 use Rattle.rules.proofs.Firing.{Going}
 use Rattle.rules.proofs.Running.{going}
@@ -61,33 +61,34 @@ module _ (c : Chart) (taken : chartRefusal c ≡ 0) (k e : ℕ) (p : State) (sta
   pub deterministic-state : (n₁ n₂ : Now) → c ⊢ ⇝runS k e p n n₁ → c ⊢ ⇝runS k e p n n₂ → n₁ ≡ n₂
   deterministic-state n₁ n₂ x y = one-place (run c (send c k) e levels p) (run-exactly n₁ .1 x) (run-exactly n₂ .1 y)
 
--- The whole call, where none of 1 to 15 applies: it answers with what the rules lead to; or they lead nowhere, and it is refused
--- with one of 16 to 20.
+-- The whole call, where none of 1 to 15 applies.
 module _ (c : Chart) (board : Board) (trace : Bytes) (k e allowance : ℕ) (z : stepRefusal c board k e allowance ≡ 0) where
-  chart-taken : chartRefusal c ≡ 0
-  unfolding stepRefusal
-  chart-taken = else-zero (chartRefusal c) _ z .0
-
-  image-fits : accepted (part board k) c ≡ true
-  unfolding stepRefusal
-  image-fits = unless-zero 12 _ _ (else-zero (partRefusal board k) _ (else-zero (chartRefusal c) _ z .1) .1) .0
-
-  abbrev before : Now
+  abbrev pub before : Now
   before = begin (part board k) trace allowance
 
-  before-fits : accepted (before .image) c ≡ true
-  unfolding begin
-  before-fits = image-fits
+  abbrev pub call : Answer
+  call = stepCall c board trace k e allowance
 
-  ends : (o : Outcome (Unit {0})) → step c e before ≡ o
-      → ((n′ : Now) × (c ⊢ ⇝Ch e before n′) × (stepCall c board trace k e allowance ≡ stepAnswer board trace k allowance (went tt n′)))
-      ⊎ (Nowhere c e before × (r : Refusal) × Executing r × (stepCall c board trace k e allowance ≡ numberOnly r board trace))
+  -- it answers with what the rules lead to
+  abbrev pub Led : Type 0
+  Led = (n′ : Now) × (c ⊢ ⇝Ch e before n′) × (call ≡ stepAnswer board trace k allowance (went tt n′))
+
+  -- they lead nowhere, and it is refused with one of 16 to 20
+  abbrev pub Stopped : Type 0
+  Stopped = Nowhere c e before × (r : Refusal) × Executing r × (call ≡ numberOnly r board trace)
+
+  taken : chartRefusal c ≡ 0
+  unfolding stepRefusal
+  taken = else-zero (chartRefusal c) _ z .0
+
+  fits : accepted (before .image) c ≡ true
+  unfolding stepRefusal begin
+  fits = unless-zero 12 _ _ (else-zero (partRefusal board k) _ (else-zero (chartRefusal c) _ z .1) .1) .0
+
+  ends : (o : Outcome (Unit {0})) → step c e before ≡ o → Led ⊎ Stopped
   unfolding stepCall stepTested stepAnswer
-  ends (refused r) q =
-      inr (refused-nowhere c chart-taken e before before-fits r q, r, step-refuses c e before r q, rw (z, q))
-  ends (went a n′) q = inl (n′, exactly c chart-taken e before before-fits n′ .0 (record { is = q }), rw (z, q))
+  ends (refused r) q = inr (refused-nowhere c taken e before fits r q, r, step-refuses c e before r q, rw (z, q))
+  ends (went a n′) q = inl (n′, exactly c taken e before fits n′ .0 (record { is = q }), rw (z, q))
 
-  pub call-exactly : ((n′ : Now) × (c ⊢ ⇝Ch e before n′)
-      × (stepCall c board trace k e allowance ≡ stepAnswer board trace k allowance (went tt n′)))
-      ⊎ (Nowhere c e before × (r : Refusal) × Executing r × (stepCall c board trace k e allowance ≡ numberOnly r board trace))
+  pub call-exactly : Led ⊎ Stopped
   call-exactly = ends (step c e before) refl

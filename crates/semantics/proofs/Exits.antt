@@ -1,17 +1,15 @@
--- Leaving is 002's exit. 01 leaves whichever children are active, and a history parent records a child as it is left; 002 leaves
--- the one active child of a one-of state, then records it, or each child of any other. They agree where demand 3's shape holds
--- from the state on down, since then one child is active, or all are; and the record is a byte that nothing between reads.
+-- Leaving is 002's exit. 01 leaves whichever children are active, and a history parent records a child as it is left; 002
+-- leaves the one active child of a one-of state, then records it, or each child of any other. They agree where demand 3's shape
+-- holds from the state on down, since then one child is active, or all are; and the record is a byte that nothing between reads.
 -- Assumes nothing.
 use mathlib.Core.Path.{_≡_, refl, sym, subst, _∙_}
 use mathlib.Core.Logic.{inl, inr}
-use mathlib.Core.Bool.{Bool, true, false}
+use mathlib.Core.Bool.{true, false}
 use mathlib.Core.List.{List, [], _∷_, List·Memᴰ·head, List·Memᴰ·tail, List·Memᴰ·not-nil, List·Memᴰ·cases-cons}
-use Prim.Native.Nat.{ℕ, zero, suc, _+_, _-_, _/_, _%_, _≤_, _<_}
+use Prim.Native.Nat.{ℕ, zero, suc, _+_, _-_, _/_, _≤_, _<_}
 use native.Mathlib.Decide.{ℕ-discrete}
 use native.Mathlib.Omega.{arith}
-use lib.ListN.{set}
 use lib.Seq.{getD-set-other, set-comm}
-use Rattle.rules.specs.Bytes.{byte, bitOff}
 use Rattle.rules.specs.Lists.{if_then_else_, downFrom}
 use Rattle.rules.specs.Chart.{State, Chart, states, parent, exit, isOneOf, keepsHistory, children, childrenDown}
 use Rattle.rules.specs.Image.{Image, isActive, deactivate, recordChild}
@@ -21,7 +19,7 @@ use Rattle.rules.specs.Fire.{leaveEach, noteLeft, leave}
 use Rattle.rules.proofs.Laws.{two, clash, not-yes}
 use Rattle.rules.proofs.Members.{Mem, isIn-mem, mem-isIn}
 use Rattle.rules.proofs.Distinct.{Distinct, downFrom-distinct, keep-distinct}
-use Rattle.rules.proofs.Taken.{Child, Tree, Right, children-mem, mem-children, childrenDown-mem, mem-childrenDown, tree, exit-valid}
+use Rattle.rules.proofs.Taken.{Child, Tree, Right, children-mem, mem-children, childrenDown-mem, mem-childrenDown, tree}
 use Rattle.rules.proofs.Trees.{Deep, child-more, sibling, deep-child, deep-end, low}
 use Rattle.rules.proofs.Soundness.{Sound}
 use Rattle.rules.proofs.Shape.{Fine}
@@ -182,8 +180,8 @@ module _ (c : Chart) (rt : Right c) where
           let b = more-inv _ y ys w in
           elim (ℕ-discrete y q) [
             | yes e ↦
-                let v : Goes (leave c d q) m (b .mid) =
-                subst (λ (x : State). Goes (leave c d x) m (b .mid)) e (active-inv y (leave c d y) (rw e (o .active)) (b .before)) in
+                let u = active-inv y (leave c d y) (rw e (o .active)) (b .before) in
+                let v = subst (λ (x : State). Goes (leave c d x) m (b .mid)) e u in
                 rw (← idle-all c _ ys (λ j k. none-after s o v j (kids j (List·Memᴰ·tail k))) (b .behind)) v
             | no ne ↦
                 let e : m ≡ b .mid = idle-inv y (leave c d y) (o .only y (kids y (List·Memᴰ·head refl)) ne) (b .before) in
@@ -204,7 +202,8 @@ module _ (c : Chart) (rt : Right c) where
           ]
 
     -- from the one active child to the composition, and back
-    sole-of : {p q : State} {im : Image} → p < states c → isOneOf c p ≡ true → Standing c p im → ActiveChild c im p q → Sole p q im
+    sole-of : {p q : State} {im : Image} → p < states c → isOneOf c p ≡ true → Standing c p im → ActiveChild c im p q
+        → Sole p q im
     sole-of {p} {q} h o s a =
         let (k, u) = sole h o s in
         let ch = children-mem c p (isIn-mem q (children c p) (a .child)) in
@@ -227,7 +226,8 @@ module _ (c : Chart) (rt : Right c) where
     unfolding noteLeft
     unrecorded-goes h o ch = no-goes _ _ _ (not-recorded h o ch) done-goes
 
-    unrecorded-inv : {p k : State} {m m′ : Now} → p < states c → isOneOf c p ≡ false → Child c p k → Goes (noteLeft c k) m m′ → m ≡ m′
+    unrecorded-inv : {p k : State} {m m′ : Now} → p < states c → isOneOf c p ≡ false → Child c p k
+        → Goes (noteLeft c k) m m′ → m ≡ m′
     unfolding noteLeft
     unrecorded-inv h o ch w =
         elim (choose-inv _ _ _ w) [ inl (e, v) ↦ clash e (not-recorded h o ch) | inr (e, v) ↦ done-inv v ]
@@ -237,7 +237,8 @@ module _ (c : Chart) (rt : Right c) where
     Exited k m m′ = (m₁ : Now) × (c ⊢ ⇝exS k m m₁) × Goes (noteLeft c k) m₁ m′
 
     module _ (p : State) (h : p < states c) (deep : (k : State) → Child c p k → Deep c n k)
-        (exits : (k : State) → Child c p k → (m m′ : Now) → Standing c k (m .image) → Goes (leave c d k) m m′ → Exited k m m′) where
+        (exits : (k : State) → Child c p k → (m m′ : Now) → Standing c k (m .image) → Goes (leave c d k) m m′
+        → Exited k m m′) where
       list-exits : isOneOf c p ≡ false → (ks : List State) {m m′ : Now} → Remaining c p ks (m .image)
           → Goes (each (λ k. whenActive k (leave c d k)) ks) m m′ → c ⊢ ⇝exSL ks m m′
       list-exits o [] r w = rw (none-inv _ w) R.exSL0
@@ -264,7 +265,8 @@ module _ (c : Chart) (rt : Right c) where
             | inr o ↦ R.exA o (list-exits o (childrenDown c p) (remaining-all h o s) w)
           ]
 
-  pub leave-sound : (d n : ℕ) (l : n + d ≡ 9) (k : State) → 0 < k → k < states c → Deep c n k → (m m′ : Now) → Standing c k (m .image)
+  leave-sound : (d n : ℕ) (l : n + d ≡ 9) (k : State) → 0 < k → k < states c → Deep c n k → (m m′ : Now)
+      → Standing c k (m .image)
       → Goes (leave c d k) m m′ → Exited d n l k m m′
   unfolding leave
   leave-sound zero n l k z h deep m m′ s w = absurd (deep-end c tr n k (omega arith) h deep)
@@ -280,7 +282,8 @@ module _ (c : Chart) (rt : Right c) where
       (paid (Standing c k) (b₁ .before) s) (b₂ .before) in
       (b₄ .mid, R.exS1 (b₁ .before) x (b₃ .before) (b₅ .before) (b₅ .behind), b₄ .behind)
 
-  pub leaveEach-sound : (p : State) → p < states c → {m m′ : Now} → Standing c p (m .image) → Goes (leaveEach c (leave c 9) p) m m′
+  pub leaveEach-sound : (p : State) → p < states c → {m m′ : Now} → Standing c p (m .image)
+      → Goes (leaveEach c (leave c 9) p) m m′
       → c ⊢ ⇝exC p m m′
   leaveEach-sound p h s w =
       composition-exits 9 0 refl p h (λ j ch. tt) (λ j ch. leave-sound 9 0 refl j (ch .above) (ch .state) tt) s w

@@ -1,5 +1,5 @@
 -- The search, the other way: what 002's rules for transitions and lists of them find, the definitions find. Assumes nothing.
-use mathlib.Core.Path.{_≡_, refl, sym, _∙_}
+use mathlib.Core.Path.{_≡_, refl}
 use mathlib.Core.Bool.{Bool, true, false}
 use mathlib.Core.List.{List, [], _∷_, _++_, List·Memᴰ·head}
 use Prim.Native.Nat.{ℕ, zero, suc, _+_, _-_, _<_}
@@ -12,18 +12,17 @@ use Rattle.rules.specs.Chart.{State, Segment, Chart, segments, conditionAction,
 use Rattle.rules.specs.Image.{Image}
 use Rattle.rules.specs.Doing.{Now, Doing, give, pay, segmentPassed, note}
 use Rattle.rules.specs.Block.{Ran, ran, abandoned, unlessAbandoned, sentBy, perform}
-use Rattle.rules.specs.Search.{Found, reached, nowhere, ended, cut, orNext, passes, tries, passed, search}
+use Rattle.rules.specs.Search.{Found, reached, nowhere, ended, cut, orNext, passes, tries, passed}
 use Rattle.rules.specs.Run.{send}
 use Rattle.rules.proofs.Laws.{clash}
 use Rattle.rules.proofs.Taken.{Right}
 use Rattle.rules.proofs.Blocks.{How}
 use Rattle.rules.proofs.Shape.{Good}
-use Rattle.rules.proofs.Firing.{Going, Path}
-use Rattle.rules.proofs.Running.{Way, Got, further, no-way, t-passes}
-use Rattle.semantics.specs.Relation.{Gives, Goes, NoState, failed, terminal}
-use Rattle.semantics.proofs.Inverting.{kept, noted, then-goes, bind-goes, give-goes, yes-goes, no-goes}
-use Rattle.semantics.proofs.Acts.{Performs}
-use Rattle.semantics.proofs.Searching.{along, along-longer, along-nothing, one-longer, Tried, Ways, tried-kept, acted-kept}
+use Rattle.rules.proofs.Firing.{Going}
+use Rattle.rules.proofs.Running.{Way, further, t-passes}
+use Rattle.semantics.specs.Relation.{Gives, Goes}
+use Rattle.semantics.proofs.Inverting.{kept, paid, noted, then-goes, bind-goes, give-goes, yes-goes, no-goes}
+use Rattle.semantics.proofs.Searching.{along, along-longer, one-longer, Tried, Ways, tried-kept, acted-kept}
 
 abbrev finished : Ran → Bool
 finished (ran st) = true
@@ -78,7 +77,8 @@ module _ (c : Chart) (k e : ℕ) (p : State) where
   passed-goes m path t how i a w = then-goes i (bind-goes _ a w)
 
   -- a passing segment first, then what the list makes of its answer
-  first-goes : (m l : ℕ) (path ts : List Segment) (t : Segment) {n n₁ n₂ n₃ n₄ : Now} {b : Bool} {o : Found} (o₁ : Found) → m + l ≡ 128
+  first-goes : (m l : ℕ) (path ts : List Segment) (t : Segment) {n n₁ n₂ n₃ n₄ : Now} {b : Bool} {o : Found} (o₁ : Found)
+      → m + l ≡ 128
       → Goes pay n n₁ → (q : Passing c k e p l t n₁ n₂ b)
       → ((m′ : ℕ) → m ≡ suc m′ → Gives (unlessAbandoned (q .how) cut (λ _. Onward m′ path t)) n₂ o₁ n₃)
       → Gives (orNext o₁ (Tried c k e p m path ts)) n₃ o n₄ → Gives (Tried c k e p m path (t ∷ ts)) n o n₄
@@ -106,7 +106,8 @@ module _ (c : Chart) (k e : ℕ) (p : State) where
   own-goes m l path (t ∷ ts) o z q ways g x = no-goes _ _ _ (ne-eqb (length (t ∷ ts)) 0 (λ z. omega arith)) (x m path z q ways g)
 
   -- the answers that end a list
-  pub reached-stops : (m : Doing Found) {d : State} {path : List Segment} {n : Now} → Gives (orNext (reached d path) m) n (reached d path) n
+  pub reached-stops : (m : Doing Found) {d : State} {path : List Segment} {n : Now}
+      → Gives (orNext (reached d path) m) n (reached d path) n
   unfolding orNext
   reached-stops m = give-goes
 
@@ -128,7 +129,7 @@ module _ (c : Chart) (rt : Right c) (k e : ℕ) (p : State) (l : ℕ) (t : Segme
   still abandoned e g = clash refl e
 
   -- the owner is there behind a segment that passed
-  pub passing-kept : {n n′ : Now} → t < segments c → Passing c k e p l t n n′ true → Going c p (n .image) → Going c p (n′ .image)
+  passing-kept : {n n′ : Now} → t < segments c → Passing c k e p l t n n′ true → Going c p (n .image) → Going c p (n′ .image)
   passing-kept real q g =
       still (q .how) (q .says)
       (acted-kept c rt k e p (g .1 .state) t real (q .acted)
@@ -145,23 +146,43 @@ module _ (c : Chart) (rt : Right c) (k e : ℕ) (p : State) (l : ℕ) (t : Segme
           tried-kept c rt k e p (g .1 .state) (127 - l) (path ++ (t ∷ [])) (u ∷ us) ways
           (y (127 - l) (path ++ (t ∷ [])) (one-longer path t z) (omega arith) ways g) g
 
-  module _ (m : ℕ) (path ts : List Segment) {n n₁ n₂ : Now} (z : length path ≡ l) (q : m + l ≡ 128) (pd : Goes pay n n₁) where
-    pub state-goes : Passing c k e p l t n₁ n₂ true → endsOnState c t ≡ true
+  -- the rules of a list, by how its first segment, which passes, goes on
+  module _ (m : ℕ) (path ts : List Segment) {n n₁ : Now} (z : length path ≡ l) (q : m + l ≡ 128) (ways : Ways c path (t ∷ ts))
+      (pd : Goes pay n n₁) (g : Going c p (n .image)) where
+    way : Way c path t
+    way = ways t (List·Memᴰ·head refl)
+
+    g₁ : Going c p (n₁ .image)
+    g₁ = paid (Going c p) pd g
+
+    -- what a segment that passes is, wherever the owner is there
+    abbrev Passes : Now → Bool → Type 0
+    Passes n₂ b = t < segments c → Going c p (n₁ .image) → Passing c k e p l t n₁ n₂ b
+
+    pub state-goes : {n₂ : Now} → Passes n₂ true → endsOnState c t ≡ true
         → Gives (Tried c k e p m path (t ∷ ts)) n (reached (destination c t) (path ++ (t ∷ []))) n₂
     state-goes x s =
-        first-goes c k e p m l path ts t _ q pd x
-        (λ m′ i. ran-goes c k e p (x .how) m′ path t (x .says) (yes-goes _ _ _ s give-goes)) (reached-stops c k e p _)
+        let here = x (way .real) g₁ in
+        first-goes c k e p m l path ts t _ q pd here
+        (λ m′ i. ran-goes c k e p (here .how) m′ path t (here .says) (yes-goes _ _ _ s give-goes)) (reached-stops c k e p _)
 
-    pub early-goes : Passing c k e p l t n₁ n₂ false → Gives (Tried c k e p m path (t ∷ ts)) n cut n₂
+    pub early-goes : {n₂ : Now} → Passes n₂ false → Gives (Tried c k e p m path (t ∷ ts)) n cut n₂
     early-goes x =
-        first-goes c k e p m l path ts t cut q pd x (λ m′ i. abandoned-goes c k e p (x .how) m′ path t (x .says)) (cut-stops c k e p _)
+        let here = x (way .real) g₁ in
+        first-goes c k e p m l path ts t cut q pd here
+        (λ m′ i. abandoned-goes c k e p (here .how) m′ path t (here .says)) (cut-stops c k e p _)
 
-    pub junction-goes : (o₁ : Found) {n₃ n₄ : Now} {o : Found} → Passing c k e p l t n₁ n₂ true → endsOnState c t ≡ false → Way c path t
-        → Going c p (n₂ .image) → Finds c k e p (l + 1) (own c (destination c t)) n₂ n₃ o₁
-        → Gives (orNext (along path (along (t ∷ []) o₁)) (Tried c k e p m path ts)) n₃ o n₄
+    pub junction-goes : (o₁ : Found) {n₂ n₃ n₄ : Now} {o : Found} → Passes n₂ true → endsOnState c t ≡ false
+        → Finds c k e p (l + 1) (own c (destination c t)) n₂ n₃ o₁
+        → (Going c p (n₂ .image) → l < 128 → Gives (orNext (along path (along (t ∷ []) o₁)) (Tried c k e p m path ts)) n₃ o n₄)
         → Gives (Tried c k e p m path (t ∷ ts)) n o n₄
-    junction-goes o₁ x s way g y w =
-        first-goes c k e p m l path ts t _ q pd x
-        (λ m′ i. ran-goes c k e p (x .how) m′ path t (x .says) (no-goes _ _ _ s
-        (rw (along-longer path t o₁) at (own-goes c k e p m′ (l + 1) (path ++ (t ∷ [])) (own c (destination c t)) o₁ (one-longer path t z)
-        (omega arith) (λ u j. further c rt u way s j) g y)))) w
+    junction-goes o₁ x s y w =
+        let here = x (way .real) g₁ in
+        let g₂ = passing-kept (way .real) here g₁ in
+        let longer = path ++ (t ∷ []) in
+        let beyond : Ways c longer (own c (destination c t)) = λ u j. further c rt u way s j in
+        first-goes c k e p m l path ts t _ q pd here
+        (λ m′ i. ran-goes c k e p (here .how) m′ path t (here .says) (no-goes _ _ _ s
+        (rw (along-longer path t o₁) at
+        (own-goes c k e p m′ (l + 1) longer (own c (destination c t)) o₁ (one-longer path t z) (omega arith) beyond g₂ y))))
+        (w g₂ (here .few))

@@ -1,5 +1,5 @@
--- A doing that went, taken apart and put together: for each way in which doings are made, what `..-inv` has of the whole `..-goes`
--- makes the whole of. And what a triple says of one that went. Assumes nothing.
+-- A doing that went, taken apart and put together: for each way in which doings are made, `..-inv` has the parts of what went,
+-- and `..-goes` the whole of parts that did. And what a triple says of one that went. Assumes nothing.
 use mathlib.Core.Path.{_≡_, refl}
 use mathlib.Core.Logic.{_⊎_, inl, inr}
 use mathlib.Core.Bool.{Bool, true, false}

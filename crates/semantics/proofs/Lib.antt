@@ -1,5 +1,6 @@
 pub mod Inverting
 pub mod Exits
+pub mod Towards
 pub mod Entries
 pub mod Acts
 pub mod Searching

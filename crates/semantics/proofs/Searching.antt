@@ -1,5 +1,5 @@
--- The search is 002's transitions and lists of transitions. The definitions hand the path so far down, 002 puts it together on the
--- way back: what a list comes to lies `along` the path before it. Assumes nothing.
+-- The search is 002's transitions and lists of transitions. The definitions hand the path so far down, 002 puts it together on
+-- the way back: what a list comes to lies `along` the path before it. Here from the definitions to the rules. Assumes nothing.
 use mathlib.Core.Path.{_≡_, refl, sym, ap, _∙_}
 use mathlib.Core.Logic.{inl, inr}
 use mathlib.Core.Bool.{Bool, true, false}
@@ -7,12 +7,12 @@ use mathlib.Core.List.{List, [], _∷_, _++_, append-assoc, List·Memᴰ·head, 
 use Prim.Native.Nat.{ℕ, zero, suc, _+_, _<_}
 use native.Mathlib.Omega.{arith}
 use lib.Dec.{eqb}
-use borrow.Author.Tests.{eqb-true, ne-eqb}
+use borrow.Author.Tests.{eqb-true}
 use lib.ListN.{length, length-append}
 use Rattle.rules.specs.Lists.{if_then_else_}
 use Rattle.rules.specs.Chart.{State, Segment, Chart, states, segments, conditionAction, destination, endsOnState, own, code}
 use Rattle.rules.specs.Doing.{Now, Doing, give, pay, segmentPassed, note}
-use Rattle.rules.specs.Block.{Ran, ran, abandoned, unlessAbandoned, sentBy, perform}
+use Rattle.rules.specs.Block.{Ran, ran, abandoned, unlessAbandoned}
 use Rattle.rules.specs.Search.{Found, reached, nowhere, ended, cut, orNext, passes, tries, passed, search}
 use Rattle.rules.specs.Run.{send}
 use Rattle.rules.proofs.Laws.{clash}
@@ -24,8 +24,8 @@ use Rattle.rules.proofs.Firing.{Going, Path}
 use Rattle.rules.proofs.Running.{Way, Got, further, no-way, t-send, t-passes, t-owns, t-tries, t-passed}
 use Rattle.semantics.specs.Relation as R
 use Rattle.semantics.specs.Relation.{⇝a, ⇝t, ⇝tl, _⊢_, Gives, Goes}
-use Rattle.semantics.proofs.Inverting.{kept, paid, noted, then-inv, bind-inv, then-goes, bind-goes, give-inv, give-goes, refuse-inv, choose-inv, yes-goes, no-goes}
-use Rattle.semantics.proofs.Acts.{Sending, Performs, perform-sound}
+use Rattle.semantics.proofs.Inverting.{kept, paid, noted, then-inv, bind-inv, give-inv, refuse-inv, choose-inv}
+use Rattle.semantics.proofs.Acts.{SendsSound, Performs, perform-sound}
 
 -- what is found after a path, told from where that path began
 abbrev pub along : List Segment → Found → Found
@@ -71,18 +71,19 @@ module _ (c : Chart) (rt : Right c) (k e : ℕ) (p : State) (h : p < states c) w
       → Gives (passed c (send c k) e p m path t) n o n′ → Going c p (n .image) → Got c p o (n′ .image)
   passed-kept m path t w x g = kept (t-passed c rt (send c k) (t-send c rt k) e p h m path t w) x g
 
-  pub tried-kept : (m : ℕ) (path ts : List Segment) → Ways c path ts → {n n′ : Now} {o : Found} → Gives (Tried c k e p m path ts) n o n′
+  pub tried-kept : (m : ℕ) (path ts : List Segment) → Ways c path ts → {n n′ : Now} {o : Found}
+      → Gives (Tried c k e p m path ts) n o n′
       → Going c p (n .image) → Got c p o (n′ .image)
   tried-kept m path ts ways x g =
-      kept (t-tries c rt (send c k) (t-send c rt k) e p h _ path (λ t w. t-passed c rt (send c k) (t-send c rt k) e p h m path t w) ts ways)
-      x g
+      let each = t-passed c rt (send c k) (t-send c rt k) e p h m path in
+      kept (t-tries c rt (send c k) (t-send c rt k) e p h _ path each ts ways) x g
 
   pub acted-kept : (t : Segment) → t < segments c → {n n′ : Now} {r : Ran}
       → Performs c rt k p [] (code c (conditionAction c t)) n r n′ → Going c p (n .image) → How (Going c p) (Good c) r (n′ .image)
-  acted-kept t real x g = kept (t-owns c rt (send c k) (t-send c rt k) e p h (conditionAction c t) (conditionAction-valid c rt t real)) x g
+  acted-kept t real x g =
+      kept (t-owns c rt (send c k) (t-send c rt k) e p h (conditionAction c t) (conditionAction-valid c rt t real)) x g
 
-  module _ (sound : (e : ℕ) (b : State) (n n′ : Now) → b < states c → Good c (n .image) → Goes (send c k e b) n n′
-      → Sending c k e b n n′) where
+  module _ (sound : SendsSound c k) where
     -- how a segment that passes goes on
     data Onward (l : ℕ) (t : Segment) (n n′ : Now) : Found → Type 0 where
       gone : c ⊢ ⇝t k e p l t n n′ false → Onward l t n n′ cut
@@ -91,8 +92,9 @@ module _ (c : Chart) (rt : Right c) (k e : ℕ) (p : State) (h : p < states c) w
           → c ⊢ ⇝tl k e p (l + 1) (own c (destination c t)) n₁ n′ o → Onward l t n n′ (along (t ∷ []) o)
 
     next-junction : (l : ℕ) (ts : List Segment) (t : Segment) {n n₁ n₂ n₃ n₄ : Now} (o : Found) → Goes pay n n₁
-        → c ⊢ ⇝t k e p l t n₁ n₂ true → endsOnState c t ≡ false → c ⊢ ⇝tl k e p (l + 1) (own c (destination c t)) n₂ n₃ nowhere
-        → Gone c k e p l ts n₃ n₄ o → c ⊢ ⇝tl k e p l (t ∷ ts) n n₄ o
+        → c ⊢ ⇝t k e p l t n₁ n₂ true → endsOnState c t ≡ false
+        → c ⊢ ⇝tl k e p (l + 1) (own c (destination c t)) n₂ n₃ nowhere → Gone c k e p l ts n₃ n₄ o
+        → c ⊢ ⇝tl k e p l (t ∷ ts) n n₄ o
     next-junction l [] t o pd x j y (a, b) = rw (a, ← b) (R.ToJ3 pd x j y)
     next-junction l (t′ ∷ ts) t o pd x j y z = R.ToJ2 pd x j y z
 
@@ -101,8 +103,8 @@ module _ (c : Chart) (rt : Right c) (k e : ℕ) (p : State) (h : p < states c) w
     next-fail l [] t o pd x (a, b) = rw (a, ← b) (R.Fail pd x)
     next-fail l (t′ ∷ ts) t o pd x z = R.Ind pd x z
 
-    module _ (l : ℕ) (path ts : List Segment) (t : Segment) (m : Doing Found) {n n₁ : Now} (pd : Goes pay n n₁) {n₃ n₄ : Now} {o : Found}
-        (rest : Going c p (n₃ .image) → Gives m n₃ o n₄ → Along path (Gone c k e p l ts n₃ n₄) o) where
+    module _ (l : ℕ) (path ts : List Segment) (t : Segment) (m : Doing Found) {n n₁ : Now} (pd : Goes pay n n₁)
+        {n₃ n₄ : Now} {o : Found} (rest : Going c p (n₃ .image) → Gives m n₃ o n₄ → Along path (Gone c k e p l ts n₃ n₄) o) where
       -- what a list makes of what its first segment comes to
       beyond : {n₂ : Now} (o₁ : Found) → c ⊢ ⇝t k e p l t n₁ n₂ true → endsOnState c t ≡ false
           → c ⊢ ⇝tl k e p (l + 1) (own c (destination c t)) n₂ n₃ o₁ → Got c p (along path (along (t ∷ []) o₁)) (n₃ .image)
@@ -114,7 +116,8 @@ module _ (c : Chart) (rt : Right c) (k e : ℕ) (p : State) (h : p < states c) w
       beyond ended x j y g w = let (a, b) = give-inv w in (ended, sym a, rw (← b) (R.ToJ4 pd x j y))
       beyond cut x j y g w = let (a, b) = give-inv w in (cut, sym a, rw (← b) (R.ToE2 pd x j y))
 
-      answered : {o₁ : Found} → Onward l t n₁ n₃ o₁ → Got c p (along path o₁) (n₃ .image) → Gives (orNext (along path o₁) m) n₃ o n₄
+      answered : {o₁ : Found} → Onward l t n₁ n₃ o₁ → Got c p (along path o₁) (n₃ .image)
+          → Gives (orNext (along path o₁) m) n₃ o n₄
           → Along path (λ o′. c ⊢ ⇝tl k e p l (t ∷ ts) n n₄ o′) o
       unfolding orNext
       answered (gone x) g w = let (a, b) = give-inv w in (cut, sym a, rw (← b) (R.ToE1 pd x))
@@ -122,11 +125,13 @@ module _ (c : Chart) (rt : Right c) (k e : ℕ) (p : State) (h : p < states c) w
       answered (on o₁ x j y) g w = beyond o₁ x j y g w
 
     -- a segment passed, or it did not
-    tried : (m l : ℕ) (path ts : List Segment) (t : Segment) → Way c path t → {n n₁ : Now} → Goes pay n n₁ → Going c p (n₁ .image)
+    tried : (m l : ℕ) (path ts : List Segment) (t : Segment) → Way c path t → {n n₁ : Now} → Goes pay n n₁
+        → Going c p (n₁ .image)
         → ((n₂ n₃ : Now) (o : Found) → Gives (passes c e t) n₁ true n₂ → Gives (passed c (send c k) e p m path t) n₂ o n₃
         → Along path (Onward l t n₁ n₃) o)
         → (b : Bool) {n₂ n₃ n₄ : Now} {o₁ o : Found} → Gives (passes c e t) n₁ b n₂
-        → Gives (if b then passed c (send c k) e p m path t else give nowhere) n₂ o₁ n₃ → Gives (orNext o₁ (Tried c k e p m path ts)) n₃ o n₄
+        → Gives (if b then passed c (send c k) e p m path t else give nowhere) n₂ o₁ n₃
+        → Gives (orNext o₁ (Tried c k e p m path ts)) n₃ o n₄
         → (Going c p (n₃ .image) → Gives (Tried c k e p m path ts) n₃ o n₄ → Along path (Gone c k e p l ts n₃ n₄) o)
         → Along path (λ o′. c ⊢ ⇝tl k e p l (t ∷ ts) n n₄ o′) o
     unfolding orNext if_then_else_
@@ -143,7 +148,8 @@ module _ (c : Chart) (rt : Right c) (k e : ℕ) (p : State) (h : p < states c) w
     tries-sound : (m l : ℕ) (path : List Segment)
         → ((t : Segment) → Way c path t → (n n₁ n′ : Now) (o : Found) → Going c p (n .image) → Gives (passes c e t) n true n₁
         → Gives (passed c (send c k) e p m path t) n₁ o n′ → Along path (Onward l t n n′) o)
-        → (ts : List Segment) → Ways c path ts → (n n′ : Now) (o : Found) → Going c p (n .image) → Gives (Tried c k e p m path ts) n o n′
+        → (ts : List Segment) → Ways c path ts → (n n′ : Now) (o : Found) → Going c p (n .image)
+        → Gives (Tried c k e p m path ts) n o n′
         → Along path (Gone c k e p l ts n n′) o
     unfolding tries
     tries-sound m l path way [] ways n n′ o g w = let (a, b) = give-inv w in (nowhere, sym a, (refl, b))
@@ -153,8 +159,8 @@ module _ (c : Chart) (rt : Right c) (k e : ℕ) (p : State) (h : p < states c) w
         let b₃ = bind-inv _ _ (b₂ .behind) in
         let g₁ = paid (Going c p) (b₁ .before) g in
         let this = ways t (List·Memᴰ·head refl) in
-        tried m l path ts t this (b₁ .before) g₁ (λ n₂ n₃ o′ x y. way t this _ n₂ n₃ o′ g₁ x y) (b₂ .gave) (b₂ .before) (b₃ .before)
-        (b₃ .behind) (λ g₃ v. tries-sound m l path way ts (λ u i. ways u (List·Memᴰ·tail i)) _ n′ o g₃ v)
+        tried m l path ts t this (b₁ .before) g₁ (λ n₂ n₃ o′ x y. way t this _ n₂ n₃ o′ g₁ x y) (b₂ .gave) (b₂ .before)
+        (b₃ .before) (b₃ .behind) (λ g₃ v. tries-sound m l path way ts (λ u i. ways u (List·Memᴰ·tail i)) _ n′ o g₃ v)
 
     -- a junction's own list
     junction : (l : ℕ) (path ts : List Segment) (m : Doing Found) {n n′ : Now} {o : Found}
@@ -174,7 +180,8 @@ module _ (c : Chart) (rt : Right c) (k e : ℕ) (p : State) (h : p < states c) w
         → c ⊢ ⇝a k p [] (code c (conditionAction c t)) n₂ n₃ r
         → Gives (unlessAbandoned r cut (λ _. if endsOnState c t then give (reached (destination c t) (path ++ (t ∷ [])))
         else if eqb (length (own c (destination c t))) 0 then give ended else m)) n₃ o n₄ → How (Going c p) (Good c) r (n₃ .image)
-        → (endsOnState c t ≡ false → Going c p (n₃ .image) → Gives m n₃ o n₄ → Along (path ++ (t ∷ [])) (Gone c k e p (l + 1) (own c (destination c t)) n₃ n₄) o)
+        → (endsOnState c t ≡ false → Going c p (n₃ .image) → Gives m n₃ o n₄
+        → Along (path ++ (t ∷ [])) (Gone c k e p (l + 1) (own c (destination c t)) n₃ n₄) o)
         → Along path (Onward l t n n₄) o
     unfolding unlessAbandoned
     ran-or-not l path t abandoned m x few i a w g f = let (y, z) = give-inv w in (cut, sym y, rw (← z) (gone (R.TrF x few i a)))
@@ -197,8 +204,8 @@ module _ (c : Chart) (rt : Right c) (k e : ℕ) (p : State) (h : p < states c) w
         let b₁ = then-inv _ _ w in
         let b₂ = bind-inv _ _ (b₁ .behind) in
         let g₂ = noted (Going c p) segmentPassed t (b₁ .before) (kept (t-passes c rt p e t (way .real)) x g) in
-        let a = perform-sound c rt k p sound [] (code c (conditionAction c t)) _ _ _ (conditionAction-valid c rt t (way .real) .operands)
-        g₂ (b₂ .before) in
+        let right = conditionAction-valid c rt t (way .real) .operands in
+        let a = perform-sound c rt k p sound [] (code c (conditionAction c t)) _ _ _ right g₂ (b₂ .before) in
         ran-or-not l path t (b₂ .gave) _ x (omega arith) (b₁ .before) a (b₂ .behind) (acted-kept t (way .real) (b₂ .before) g₂)
         (λ s g₃ v. tries-sound m (l + 1) (path ++ (t ∷ []))
         (passed-sound m (l + 1) (path ++ (t ∷ [])) (one-longer path t z) (omega arith))
@@ -209,5 +216,6 @@ module _ (c : Chart) (rt : Right c) (k e : ℕ) (p : State) (h : p < states c) w
         → Gives (search c (send c k) e p ts) n o n′ → Gone c k e p 0 ts n n′ o
     unfolding search
     search-sound ts real n n′ o g w =
-        let (o′, a, x) = tries-sound 128 0 [] (passed-sound 128 0 [] refl (omega arith)) ts (λ t i. no-way c rt t (real t i)) n n′ o g w in
+        let ways : Ways c [] ts = λ t i. no-way c rt t (real t i) in
+        let (o′, a, x) = tries-sound 128 0 [] (passed-sound 128 0 [] refl (omega arith)) ts ways n n′ o g w in
         rw (a ∙ along-nothing o′) x

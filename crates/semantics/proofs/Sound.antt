@@ -1,24 +1,23 @@
--- From the definitions to the rules: where a run, a send or a step goes, 002's rules, as 01 narrows them, go. The run begins where
+-- From the definitions to the rules: where a run, a send or a step goes, 002's rules, as 01 narrows them, go. A run begins where
 -- its state is active and the shape holds, and finds both again wherever a rule asks for them. Assumes nothing.
-use mathlib.Core.Path.{_≡_, refl, sym, _∙_}
+use mathlib.Core.Path.{_≡_, refl}
 use mathlib.Core.Logic.{inl, inr}
-use mathlib.Core.Bool.{Bool, true, false}
-use mathlib.Core.List.{List, [], _∷_, List·Memᴰ·head, List·Memᴰ·tail, List·Memᴰ·not-nil, List·Memᴰ·cases-cons}
+use mathlib.Core.Bool.{true}
+use mathlib.Core.List.{List, [], _∷_, List·Memᴰ·head, List·Memᴰ·tail}
 use Prim.Native.Nat.{ℕ, zero, suc, _+_, _<_}
-use native.Mathlib.Decide.{ℕ-discrete}
 use native.Mathlib.Omega.{arith}
 use lib.Dec.{eqb}
 use borrow.Author.Tests.{ne-eqb}
-use Rattle.rules.specs.Lists.{if_then_else_, first, sumOver}
+use Rattle.rules.specs.Lists.{if_then_else_, first}
 use Rattle.rules.specs.Chart.{State, Segment, Chart, states, during, isOneOf, children, outer, inner, code}
 use Rattle.rules.specs.Image.{Image, isActive, notStarted, accepted}
-use Rattle.rules.specs.Doing.{Now, Done, done, pay, duringPoint, note, each, whenActive}
-use Rattle.rules.specs.Block.{Stack, Ran, ran, abandoned, unlessAbandoned, sentBy, perform}
+use Rattle.rules.specs.Doing.{Now, done, pay, duringPoint, note, each, whenActive}
+use Rattle.rules.specs.Block.{Stack, Ran, ran, abandoned, unlessAbandoned}
 use Rattle.rules.specs.Search.{Found, reached, nowhere, ended, cut, search}
-use Rattle.rules.specs.Fire.{levels, leaveEach, leave, enter, arena, transit, fire}
+use Rattle.rules.specs.Fire.{levels, leaveEach, leave, arena, transit, fire}
 use Rattle.rules.specs.Run.{follow, runActive, runChildren, runInside, runDuring, run, send, start, step}
 use Rattle.rules.proofs.Laws.{two, clash}
-use Rattle.rules.proofs.Members.{Mem, isIn-mem, mem-isIn}
+use Rattle.rules.proofs.Members.{Mem, mem-isIn}
 use Rattle.rules.proofs.Taken.{Child, Tree, Right, tree, children-mem, mem-children, during-valid}
 use Rattle.rules.proofs.Trees.{Deep, deep-child, deep-end}
 use Rattle.rules.proofs.Weights.{weigh}
@@ -27,27 +26,16 @@ use Rattle.rules.proofs.Blocks.{How}
 use Rattle.rules.proofs.Shape.{Good}
 use Rattle.rules.proofs.Leaving.{leavingCost, t-leaveEach, t-leave}
 use Rattle.rules.proofs.Firing.{Going, Path, Up, up-root, up-arena, t-transits}
-use Rattle.rules.proofs.Running.{Got, starts-path, going, t-send, t-owns, t-search, t-run}
+use Rattle.rules.proofs.Running.{Reach, Got, starts-path, going, t-send, t-owns, t-search, t-run}
 use Rattle.rules.proofs.Accepting.{sound, started-good}
 use Rattle.semantics.specs.Relation as R
-use Rattle.semantics.specs.Relation.{⇝a, ⇝tl, ⇝exC, ⇝enC, ⇝runS, ⇝runC, ⇝runSL, ⇝Ch, _⊢_, Gives, Goes, ActiveChild, NoState, failed, terminal}
+use Rattle.semantics.specs.Relation.{⇝a, ⇝tl, ⇝exC, ⇝enC, ⇝runS, ⇝runC, ⇝runSL, ⇝Ch, _⊢_, Gives, Goes, Descent, NoState, failed, terminal}
 use Rattle.semantics.proofs.Inverting.{kept, paid, noted, then-inv, bind-inv, give-inv, done-inv, look-inv, refuse-inv, choose-inv, active-inv, idle-inv, none-inv, more-inv}
 use Rattle.semantics.proofs.Exits.{Standing, leaveEach-sound}
+use Rattle.semantics.proofs.Towards.{first-only, descent, arena-below}
 use Rattle.semantics.proofs.Entries.{enter-sound, enterEach-sound}
-use Rattle.semantics.proofs.Acts.{Sending, sent, unsent, perform-sound}
+use Rattle.semantics.proofs.Acts.{Sending, sent, unsent, SendsSound, perform-sound}
 use Rattle.semantics.proofs.Searching.{Gone, search-sound}
-
--- of one that alone passes, it is the first
-first-only : (f : State → Bool) (xs : List State) (q : State) → Mem q xs → f q ≡ true → ((x : State) → Mem x xs → f x ≡ true → x ≡ q)
-    → first f xs ≡ q
-unfolding first if_then_else_
-first-only f [] q m y u = absurd (List·Memᴰ·not-nil m)
-first-only f (x ∷ xs) q m y u =
-    elim (two (f x)) [
-      | inl e ↦ rw e (u x (List·Memᴰ·head refl) e)
-      | inr e ↦ rw e (first-only f xs q (elim (List·Memᴰ·cases-cons m) [ inl z ↦ clash y (rw z e) | inr i ↦ i ]) y
-          (λ z i. u z (List·Memᴰ·tail i)))
-    ]
 
 module _ (c : Chart) (rt : Right c) where
   tr : Tree c
@@ -59,7 +47,8 @@ module _ (c : Chart) (rt : Right c) where
       × ((j : State) → Child c p j → isActive im j ≡ true → j ≡ q)
   active-child p im (g, u) o =
       let (q, ch, a, only) = g .fine p (u .state) .one (u .on) o in
-      (q, ch, a, first-only (isActive im) (children c p) q (mem-children c p q ch) a (λ x m y. only x (children-mem c p m) y), only)
+      let is = first-only (isActive im) (children c p) q (mem-children c p q ch) a (λ x m y. only x (children-mem c p m) y) in
+      (q, ch, a, is, only)
 
   -- the lists of a state's edges
   pub outer-real : (p : State) → Path c (outer c p)
@@ -82,27 +71,33 @@ module _ (c : Chart) (rt : Right c) where
       (λ k ch. t-leave c rt 9 0 refl k (ch .above) (ch .state) tt)) x refl in
       kept (t-transits c rt a (n .image) path real) y emptied .moved .sound
 
-  -- a path is fired by three premises of runS and runS2
-  record Fired (p h : State) (path : List Segment) (n n′ : Now) : Type 0 where
+  -- a path is fired by the last premises of runS and runS2
+  record Fired (p s : State) (path : List Segment) (n n′ : Now) : Type 0 where
     left : Now
     between : Now
-    exits : c ⊢ ⇝exC (arena c p h path) n left
+    way : List State
+    exits : c ⊢ ⇝exC (arena c p s path) n left
     acts : Goes (each (transit c) path) left between
-    enters : c ⊢ ⇝enC h (arena c p h path) between n′
+    down : Descent c (arena c p s path) way s
+    enters : c ⊢ ⇝enC way (arena c p s path) between n′
 
-  fire-sound : (p h : State) (path : List Segment) → Path c path → {n n′ : Now} → Going c p (n .image) → Goes (fire c p h path) n n′
-      → Fired p h path n n′
+  fire-sound : (p s : State) (path : List Segment) → Reach c s path → {n n′ : Now} → Going c p (n .image)
+      → Goes (fire c p s path) n n′ → Fired p s path n n′
   unfolding fire
-  fire-sound p h path real {n} (g, u) w =
+  fire-sound p s path r {n} (g, u) w =
       let b₁ = then-inv _ _ w in
       let b₂ = then-inv _ _ (b₁ .behind) in
-      let a = up-arena c rt (n .image) g p h path u in
+      let a = up-arena c rt (n .image) g p s path u in
+      let (h, d) = descent c rt (arena-below c rt p s path (u .state) (r .state)) in
       record {
         left = b₁ .mid;
         between = b₂ .mid;
+        way = h;
         exits = leaveEach-sound c rt _ (a .state) (standing g a) (b₁ .before);
         acts = b₂ .before;
-        enters = enterEach-sound c rt h _ (a .state) (b₂ .behind) (transit-sound _ path real (g .sound) (b₁ .before) (b₂ .before));
+        down = d;
+        enters = enterEach-sound c rt s (r .state) _ h (inl d) (a .state) (b₂ .behind)
+            (transit-sound _ path (r .route .inside) (g .sound) (b₁ .before) (b₂ .before));
       }
 
 -- what a state's list comes to
@@ -112,7 +107,8 @@ Came c k e p ts n n′ nowhere = (o : Found) × (c ⊢ ⇝tl k e p 0 ts n n′ o
 Came c k e p ts n n′ ended = (o : Found) × (c ⊢ ⇝tl k e p 0 ts n n′ o) × NoState o
 Came c k e p ts n n′ cut = c ⊢ ⇝tl k e p 0 ts n n′ cut
 
-came : (c : Chart) (k e : ℕ) (p : State) (ts : List Segment) (n n′ : Now) (o : Found) → Gone c k e p 0 ts n n′ o → Came c k e p ts n n′ o
+came : (c : Chart) (k e : ℕ) (p : State) (ts : List Segment) (n n′ : Now) (o : Found) → Gone c k e p 0 ts n n′ o
+    → Came c k e p ts n n′ o
 came c k e p [] n n′ (reached h path) (a, b) = let z : _≡_ {A = ℕ} 0 1 = cc in absurd (omega arith)
 came c k e p [] n n′ nowhere (a, b) = (ended, rw b R.Ter, terminal)
 came c k e p [] n n′ ended (a, b) = (ended, rw b R.Ter, terminal)
@@ -122,9 +118,7 @@ came c k e p (t ∷ ts) n n′ nowhere x = (nowhere, x, failed)
 came c k e p (t ∷ ts) n n′ ended x = (ended, x, terminal)
 came c k e p (t ∷ ts) n n′ cut x = x
 
-module _ (c : Chart) (rt : Right c) (k : ℕ)
-    (sends : (e : ℕ) (b : State) (n n′ : Now) → b < states c → Good c (n .image) → Goes (send c k e b) n n′ → Sending c k e b n n′)
-    (e : ℕ) where
+module _ (c : Chart) (rt : Right c) (k : ℕ) (sends : SendsSound c k) (e : ℕ) where
   -- a state's list of segments, what holds behind it, and what it comes to
   searched-kept : (p : State) (ts : List Segment) → Path c ts → {n n′ : Now} {o : Found} → Going c p (n .image)
       → Gives (search c (send c k) e p ts) n o n′ → Got c p o (n′ .image)
@@ -180,11 +174,12 @@ module _ (c : Chart) (rt : Right c) (k : ℕ)
     module _ (p : State) (deep : (s : State) → Child c p s → Deep c n s) {m m₁ : Now} (pd : Goes pay m m₁) where
       -- after the during action
       inside : {m₂ m₃ m₄ m₅ m₆ : Now} {o : Found} {st : Stack} (o′ : Found) → c ⊢ ⇝tl k e p 0 (outer c p) m₁ m₂ o → NoState o
-          → Goes (note duringPoint p) m₂ m₃ → c ⊢ ⇝a k p [] (code c (during c p)) m₃ m₄ (ran st) → Came c k e p (inner c p) m₄ m₅ o′
+          → Goes (note duringPoint p) m₂ m₃ → c ⊢ ⇝a k p [] (code c (during c p)) m₃ m₄ (ran st)
+          → Came c k e p (inner c p) m₄ m₅ o′
           → Got c p o′ (m₅ .image) → Goes (follow c p o′ (runChildren c (run c (send c k) e d) p)) m₅ m₆ → c ⊢ ⇝runS k e p m m₆
       unfolding follow
       inside (reached t path) x none i a y (r, g) w =
-          let f = fire-sound c rt p t path (r .inside) g w in R.runS2 pd x none i a y (f .exits) (f .acts) (f .enters)
+          let f = fire-sound c rt p t path r g w in R.runS2 pd x none i a y (f .exits) (f .acts) (f .down) (f .enters)
       inside nowhere x none i a (o, y, none′) g w = R.runS3 pd x none i a y none′ (children-run p deep g w)
       inside ended x none i a (o, y, none′) g w = R.runS3 pd x none i a y none′ (children-run p deep g w)
       inside cut x none i a y g w = rw (← done-inv w) (R.runE3 pd x none i a y)
@@ -216,7 +211,7 @@ module _ (c : Chart) (rt : Right c) (k : ℕ)
           → Goes (follow c p o (runDuring c (send c k) e (run c (send c k) e d) p)) m₂ m₃ → c ⊢ ⇝runS k e p m m₃
       unfolding follow
       followed (reached t path) x (r, g) w =
-          let f = fire-sound c rt p t path (r .inside) g w in R.runS pd x (f .exits) (f .acts) (f .enters)
+          let f = fire-sound c rt p t path r g w in R.runS pd x (f .exits) (f .acts) (f .down) (f .enters)
       followed nowhere (o, x, none) g w = during-runs x none g w
       followed ended (o, x, none) g w = during-runs x none g w
       followed cut x g w = rw (← done-inv w) (R.runE1 pd x)
@@ -229,11 +224,14 @@ module _ (c : Chart) (rt : Right c) (k : ℕ)
       let b₁ = then-inv _ _ w in
       let b₂ = bind-inv _ _ (b₁ .behind) in
       let g₁ = paid (Going c p) (b₁ .before) g in
-      followed d (suc n) (run-sound d (suc n) (omega arith)) p (λ s ch. deep-child c (tree c rt) n deep ch) (b₁ .before) (b₂ .gave)
-      (searched p (outer c p) (outer-real c rt p) g₁ (b₂ .before)) (searched-kept p (outer c p) (outer-real c rt p) g₁ (b₂ .before)) (b₂ .behind)
+      let deeper : (s : State) → Child c p s → Deep c (suc n) s = λ s ch. deep-child c (tree c rt) n deep ch in
+      followed d (suc n) (run-sound d (suc n) (omega arith)) p deeper (b₁ .before) (b₂ .gave)
+      (searched p (outer c p) (outer-real c rt p) g₁ (b₂ .before))
+      (searched-kept p (outer c p) (outer-real c rt p) g₁ (b₂ .before)) (b₂ .behind)
 
 module _ (c : Chart) (rt : Right c) where
-  pub send-sound : (k e : ℕ) (b : State) (n n′ : Now) → b < states c → Good c (n .image) → Goes (send c k e b) n n′ → Sending c k e b n n′
+  pub send-sound : (k e : ℕ) (b : State) (n n′ : Now) → b < states c → Good c (n .image) → Goes (send c k e b) n n′
+      → Sending c k e b n n′
   unfolding send
   send-sound zero e b n n′ h g w =
       elim (two (isActive (n .image) b)) [
@@ -252,8 +250,8 @@ module _ (c : Chart) (rt : Right c) where
   step-sound e n n′ a w =
       elim (two (notStarted (n .image))) [
         | inl s ↦
-            R.Start s (enter-sound c rt 9 0 refl 0 0 (tree c rt .some) tt n n′ (record { is = rw s at (w .is) })
-            (sound c (n .image) a) .0)
+            R.Start s (enter-sound c rt 0 (tree c rt .some) 9 0 refl 0 [] (inl R.here) (tree c rt .some) tt n n′
+            (record { is = rw s at (w .is) }) (sound c (n .image) a) .0)
         | inr s ↦
             let g = started-good c (n .image) a s in
             R.Ch s (run-sound c rt 8 (send-sound 8) e 9 0 refl 0 tt n n′ (g, up-root c rt (n .image) g)

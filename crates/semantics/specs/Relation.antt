@@ -1,13 +1,14 @@
--- The published rules, those of source 002, as an inductive relation: a constructor for each, under 002's name for it and in 002's
--- order, figure by figure, as paper 01 narrows them. A premise in ⟦ ⟧ is 01's own: a unit is paid, an item noted, a limit kept, a
--- state asked whether it is active. Where 01 refuses, no rule applies: only what goes through has a derivation. As 002 takes
--- expressions, conditions and lca for given, so are taken: what an instruction other than a send does (`instruct`), an action
--- that cannot send, whether a segment passes (enb), the arena, who is on the way to a target. Assumes nothing.
+-- The published rules, those of source 002, as an inductive relation: a constructor for each, under 002's name for it and in
+-- 002's order, figure by figure, as paper 01 narrows them. `c ⊢ ⇝exS p n n′` is 002's Γ ⊢ (p, α₁) →exS (α₂, ⊤). A premise in
+-- ⟦ ⟧ is 01's own: a unit is paid, an item noted, a limit kept, a state asked whether it is active. Where 01 refuses, no rule
+-- applies: only what goes through has a derivation. As 002 takes the values of expressions and lca for given, so are here: what
+-- an instruction other than a send does, an action that cannot send, whether a segment passes (enb), the arena. Assumes nothing.
 use mathlib.Core.Path.{_≡_}
 use mathlib.Core.Logic.{_⊎_}
 use mathlib.Core.Bool.{Bool, true, false}
 use mathlib.Core.List.{List, [], _∷_}
 use Prim.Native.Nat.{ℕ, suc, _+_, _<_}
+use lib.Dec.{eqb}
 use lib.IntN.{pos}
 use Rattle.rules.specs.Lists.{if_then_else_, isIn}
 use Rattle.rules.specs.Chart as C
@@ -17,16 +18,16 @@ use Rattle.rules.specs.Image.{Image, isActive, recorded, activate, deactivate, 
 use Rattle.rules.specs.Doing.{Now, went, Doing, Done, change, pay, stateEntered, stateLeft, duringPoint, segmentPassed, note, each}
 use Rattle.rules.specs.Block.{Stack, Ran, ran, abandoned, noSend, instruct, action}
 use Rattle.rules.specs.Search.{Found, reached, nowhere, ended, cut, passes}
-use Rattle.rules.specs.Fire.{noteLeft, onTheWay, arena, transit}
+use Rattle.rules.specs.Fire.{noteLeft, arena, transit}
 
--- m goes from n to n′ and gives a; or has nothing to give
+-- the doing m goes from n to n′ and gives a; and where it has nothing to give
 pub record Gives {A : Type 0} (m : Doing A) (n : Now) (a : A) (n′ : Now) : Type 0 where
   pub is : m n ≡ went a n′
 
 abbrev pub Goes : Done → Now → Now → Type 0
 Goes m n n′ = Gives m n tt n′
 
--- a premise that 002 has not
+-- a premise that 002 does not have
 abbrev pub ⟦_⟧ : Type 0 → Type 0
 ⟦ premise ⟧ = premise
 
@@ -35,15 +36,33 @@ pub record ActiveChild (c : Chart) (im : Image) (p q : State) : Type 0 where
   pub child : isIn q (children c p) ≡ true
   pub active : isActive im q ≡ true
 
--- vt is 0 or -1: the list came to its end, or to a terminal junction, and no state was reached
+-- 002's h = s \ a: h is the path from a down to s, child by child
+pub data Descent (c : Chart) : State → List State → State → Type 0 where
+  here : {s : State} → Descent c s [] s
+  down : {a b s : State} {h : List State} → isIn b (children c a) ≡ true → Descent c b h s → Descent c a (b ∷ h) s
+
+-- what is left of such a path behind its first state
+abbrev pub tail : List State → List State
+tail [] = []
+tail (q ∷ h) = h
+
+-- what a child s is handed of it: if s = head(h) then h else ε
+abbrev pub towards : State → List State → List State
+towards s [] = []
+towards s (q ∷ h) = if eqb s q then q ∷ h else []
+
+-- vt is 0 or -1: a list of transitions failed, or came to a terminal junction
 pub data NoState : Found → Type 0 where
   failed : NoState nowhere
   terminal : NoState ended
 
--- The arrows of 002, each from a configuration n to the next, n′. k: how many sends more may be opened (01); e: the event; p: the
--- state, or the source; l: how many segments passed before on the path (01); h: the target to be entered. What they end with: r,
--- a block's stack, or early return; b, whether no early return; o, a state reached (vt = 1) with the path to it, of which 002's
--- transition actions and hp are made, or none (vt = 0, -1), or early return.
+-- The arrows of 002, each from a configuration n to the next, n′, with what it takes:
+--   k, how many sends more may be opened, and l, how many segments have passed on the path before (both 01's);
+--   e, the event; p, the state, or the owner of a block or a search; h, the path down to the state that is to be entered;
+-- and what it ends with:
+--   r, a block's stack, or early return; b, that there is no early return;
+--   o, a state that is reached (vt is 1) and the path to it, of which 002's transition actions and hp are made; or none (0, -1);
+--   or early return.
 pub data Arrow : Type 0 where
   ⇝i : (k : ℕ) (p : State) (st : Stack) (i : Instruction) (n n′ : Now) (r : Ran) → Arrow
   ⇝a : (k : ℕ) (p : State) (st : Stack) (is : List Instruction) (n n′ : Now) (r : Ran) → Arrow
@@ -51,33 +70,33 @@ pub data Arrow : Type 0 where
   ⇝tl : (k e : ℕ) (p : State) (l : ℕ) (ts : List Segment) (n n′ : Now) (o : Found) → Arrow
   ⇝exS ⇝exC : (p : State) (n n′ : Now) → Arrow
   ⇝exSL : (ps : List State) (n n′ : Now) → Arrow
-  ⇝enS ⇝enC : (h p : State) (n n′ : Now) → Arrow
-  ⇝enSL : (h : State) (ps : List State) (n n′ : Now) → Arrow
+  ⇝enS ⇝enC : (h : List State) (p : State) (n n′ : Now) → Arrow
+  ⇝enSL : (h ps : List State) (n n′ : Now) → Arrow
   ⇝runS ⇝runC : (k e : ℕ) (p : State) (n n′ : Now) → Arrow
   ⇝runSL : (k e : ℕ) (ps : List State) (n n′ : Now) → Arrow
   ⇝Ch : (e : ℕ) (n n′ : Now) → Arrow
 
 infix 4 _⊢_
 pub data _⊢_ (c : Chart) : Arrow → Type 0 where
-  -- Fig. 5, actions: blocks of instructions over a stack. The event is the instruction's a, the state that it goes to is b
+  -- Fig. 5, actions. A block is a list of instructions, over a stack; a send's event is a, and the state that it goes to is b
   SendF : {k : ℕ} {p b : State} {st : Stack} {i : Instruction} {n n′ : Now}
       → i .op ≡ C.send → i .b ≡ pos b → ⟦ isActive (n .image) b ≡ true ⟧ → c ⊢ ⇝runS k (i .a) b n n′
       → c ⊢ ⇝i (suc k) p st i n n′ (if isActive (n′ .image) p then ran st else abandoned)
   SendN : {k : ℕ} {p b : State} {st : Stack} {i : Instruction} {n : Now}
       → i .op ≡ C.send → i .b ≡ pos b → ⟦ isActive (n .image) b ≡ false ⟧
       → c ⊢ ⇝i k p st i n n (ran st)
-  -- assignment, print, and the rest of 01's ops
+  -- assignment, print, and what else 01 has
   Plain : {k : ℕ} {p : State} {st : Stack} {i : Instruction} {n n′ : Now} {r : Ran}
       → isSend (i .op) ≡ false → Gives (instruct noSend (i .op) i st) n r n′
       → c ⊢ ⇝i k p st i n n′ r
-  Skip : {k : ℕ} {p : State} {st : Stack} {n : Now}
-      → c ⊢ ⇝a k p st [] n n (ran st)
   SeqT : {k : ℕ} {p : State} {st st₁ : Stack} {i : Instruction} {is : List Instruction} {n n₁ n₂ n₃ : Now} {r : Ran}
       → ⟦ Goes pay n n₁ ⟧ → c ⊢ ⇝i k p st i n₁ n₂ (ran st₁) → c ⊢ ⇝a k p st₁ is n₂ n₃ r
       → c ⊢ ⇝a k p st (i ∷ is) n n₃ r
   SeqF : {k : ℕ} {p : State} {st : Stack} {i : Instruction} {is : List Instruction} {n n₁ n₂ : Now}
       → ⟦ Goes pay n n₁ ⟧ → c ⊢ ⇝i k p st i n₁ n₂ abandoned
       → c ⊢ ⇝a k p st (i ∷ is) n n₂ abandoned
+  Skip : {k : ℕ} {p : State} {st : Stack} {n : Now}
+      → c ⊢ ⇝a k p st [] n n (ran st)
   -- Fig. 6, transitions, and lists of transitions
   TrT : {k e l : ℕ} {p : State} {t : Segment} {st : Stack} {n n₁ n₂ n₃ : Now}
       → Gives (passes c e t) n true n₁ → ⟦ l < 128 ⟧ → ⟦ Goes (note segmentPassed t) n₁ n₂ ⟧
@@ -112,7 +131,7 @@ pub data _⊢_ (c : Chart) : Arrow → Type 0 where
   Fail : {k e l : ℕ} {p : State} {t : Segment} {n n₁ n₂ : Now}
       → ⟦ Goes pay n n₁ ⟧ → Gives (passes c e t) n₁ false n₂
       → c ⊢ ⇝tl k e p l (t ∷ []) n n₂ nowhere
-  -- what 002 does not show: no transition at all, of a junction (terminal) or of a state; early return, here or further on
+  -- 002 does not show these: no transition at all, of a junction (terminal) or of a state; early return, here or further on
   Ter : {k e l : ℕ} {p : State} {n : Now}
       → c ⊢ ⇝tl k e p l [] n n ended
   ToE1 : {k e l : ℕ} {p : State} {t : Segment} {ts : List Segment} {n n₁ n₂ : Now}
@@ -139,39 +158,43 @@ pub data _⊢_ (c : Chart) : Arrow → Type 0 where
       → isOneOf c p ≡ false → c ⊢ ⇝exSL (childrenDown c p) n n′
       → c ⊢ ⇝exC p n n′
   -- Fig. 8, entry
-  enS : {h p : State} {n n₁ n₂ n₃ n₄ n₅ : Now}
+  enS : {h : List State} {p : State} {n n₁ n₂ n₃ n₄ n₅ : Now}
       → ⟦ Goes pay n n₁ ⟧ → Goes (change (λ im. activate im p)) n₁ n₂ → ⟦ Goes (note stateEntered p) n₂ n₃ ⟧
-      → Goes (action c (entry c p)) n₃ n₄ → c ⊢ ⇝enC h p n₄ n₅
+      → Goes (action c (entry c p)) n₃ n₄ → c ⊢ ⇝enC (tail h) p n₄ n₅
       → c ⊢ ⇝enS h p n n₅
-  enO1 : {h p : State} {n n′ : Now}
-      → isOneOf c p ≡ true → 0 < onTheWay c p h → c ⊢ ⇝enS h (onTheWay c p h) n n′
-      → c ⊢ ⇝enC h p n n′
-  enO2 : {h p : State} {n n′ : Now}
-      → isOneOf c p ≡ true → onTheWay c p h ≡ 0 → keepsHistory c p ≡ true → 0 < recorded (n .image) p
-      → c ⊢ ⇝enS h (recorded (n .image) p) n n′
-      → c ⊢ ⇝enC h p n n′
-  enO3 : {h p : State} {n n′ : Now}
-      → isOneOf c p ≡ true → onTheWay c p h ≡ 0 → (recorded (n .image) p ≡ 0) ⊎ (keepsHistory c p ≡ false)
-      → c ⊢ ⇝enS h (initial c p) n n′
-      → c ⊢ ⇝enC h p n n′
-  enSL0 : {h : State} {n : Now}
+  enO1 : {h : List State} {p q : State} {n n′ : Now}
+      → isOneOf c p ≡ true → c ⊢ ⇝enS (q ∷ h) q n n′
+      → c ⊢ ⇝enC (q ∷ h) p n n′
+  enO2 : {p : State} {n n′ : Now}
+      → isOneOf c p ≡ true → keepsHistory c p ≡ true → 0 < recorded (n .image) p
+      → c ⊢ ⇝enS [] (recorded (n .image) p) n n′
+      → c ⊢ ⇝enC [] p n n′
+  -- 01 has an initial child in place of a list of default transitions
+  enO3 : {p : State} {n n′ : Now}
+      → isOneOf c p ≡ true → (recorded (n .image) p ≡ 0) ⊎ (keepsHistory c p ≡ false)
+      → c ⊢ ⇝enS [] (initial c p) n n′
+      → c ⊢ ⇝enC [] p n n′
+  enSL0 : {h : List State} {n : Now}
       → c ⊢ ⇝enSL h [] n n
-  enSL : {h p : State} {ps : List State} {n n₁ n₂ : Now}
-      → c ⊢ ⇝enS h p n n₁ → c ⊢ ⇝enSL h ps n₁ n₂
+  enSL : {h ps : List State} {p : State} {n n₁ n₂ : Now}
+      → c ⊢ ⇝enS (towards p h) p n n₁ → c ⊢ ⇝enSL h ps n₁ n₂
       → c ⊢ ⇝enSL h (p ∷ ps) n n₂
-  enA : {h p : State} {n n′ : Now}
+  enA : {h : List State} {p : State} {n n′ : Now}
       → isOneOf c p ≡ false → c ⊢ ⇝enSL h (children c p) n n′
       → c ⊢ ⇝enC h p n n′
-  -- Fig. 9, execution
-  runS : {k e : ℕ} {p h : State} {path : List Segment} {n n₁ n₂ n₃ n₄ n₅ : Now}
-      → ⟦ Goes pay n n₁ ⟧ → c ⊢ ⇝tl k e p 0 (outer c p) n₁ n₂ (reached h path)
-      → c ⊢ ⇝exC (arena c p h path) n₂ n₃ → Goes (each (transit c) path) n₃ n₄ → c ⊢ ⇝enC h (arena c p h path) n₄ n₅
+  -- Fig. 9, execution. The arena is 01's, for what 002 calls exS and enS
+  runS : {k e : ℕ} {p s : State} {path : List Segment} {h : List State} {n n₁ n₂ n₃ n₄ n₅ : Now}
+      → ⟦ Goes pay n n₁ ⟧ → c ⊢ ⇝tl k e p 0 (outer c p) n₁ n₂ (reached s path)
+      → c ⊢ ⇝exC (arena c p s path) n₂ n₃ → Goes (each (transit c) path) n₃ n₄
+      → Descent c (arena c p s path) h s → c ⊢ ⇝enC h (arena c p s path) n₄ n₅
       → c ⊢ ⇝runS k e p n n₅
-  runS2 : {k e : ℕ} {p h : State} {path : List Segment} {o : Found} {st : Stack} {n n₁ n₂ n₃ n₄ n₅ n₆ n₇ n₈ : Now}
+  runS2 : {k e : ℕ} {p s : State} {path : List Segment} {h : List State} {o : Found} {st : Stack}
+      {n n₁ n₂ n₃ n₄ n₅ n₆ n₇ n₈ : Now}
       → ⟦ Goes pay n n₁ ⟧ → c ⊢ ⇝tl k e p 0 (outer c p) n₁ n₂ o → NoState o
       → ⟦ Goes (note duringPoint p) n₂ n₃ ⟧ → c ⊢ ⇝a k p [] (code c (during c p)) n₃ n₄ (ran st)
-      → c ⊢ ⇝tl k e p 0 (inner c p) n₄ n₅ (reached h path)
-      → c ⊢ ⇝exC (arena c p h path) n₅ n₆ → Goes (each (transit c) path) n₆ n₇ → c ⊢ ⇝enC h (arena c p h path) n₇ n₈
+      → c ⊢ ⇝tl k e p 0 (inner c p) n₄ n₅ (reached s path)
+      → c ⊢ ⇝exC (arena c p s path) n₅ n₆ → Goes (each (transit c) path) n₆ n₇
+      → Descent c (arena c p s path) h s → c ⊢ ⇝enC h (arena c p s path) n₇ n₈
       → c ⊢ ⇝runS k e p n n₈
   runS3 : {k e : ℕ} {p : State} {o o′ : Found} {st : Stack} {n n₁ n₂ n₃ n₄ n₅ n₆ : Now}
       → ⟦ Goes pay n n₁ ⟧ → c ⊢ ⇝tl k e p 0 (outer c p) n₁ n₂ o → NoState o
@@ -192,7 +215,7 @@ pub data _⊢_ (c : Chart) : Arrow → Type 0 where
   runA : {k e : ℕ} {p : State} {n n′ : Now}
       → isOneOf c p ≡ false → c ⊢ ⇝runSL k e (children c p) n n′
       → c ⊢ ⇝runC k e p n n′
-  -- what 002 does not show: early return in the outer list, the during action or the inner list ends the run
+  -- 002 does not show these: early return in the outer list, the during action or the inner list ends the run
   runE1 : {k e : ℕ} {p : State} {n n₁ n₂ : Now}
       → ⟦ Goes pay n n₁ ⟧ → c ⊢ ⇝tl k e p 0 (outer c p) n₁ n₂ cut
       → c ⊢ ⇝runS k e p n n₂
@@ -205,10 +228,10 @@ pub data _⊢_ (c : Chart) : Arrow → Type 0 where
       → ⟦ Goes (note duringPoint p) n₂ n₃ ⟧ → c ⊢ ⇝a k p [] (code c (during c p)) n₃ n₄ (ran st)
       → c ⊢ ⇝tl k e p 0 (inner c p) n₄ n₅ cut
       → c ⊢ ⇝runS k e p n n₅
-  -- the chart, for one event: the root is run as a state; before the first event it is entered (01)
+  -- the chart, for one event: the root is run as a state; where it is not started yet, it is entered
   Ch : {e : ℕ} {n n′ : Now}
       → ⟦ notStarted (n .image) ≡ false ⟧ → c ⊢ ⇝runS 8 e 0 n n′
       → c ⊢ ⇝Ch e n n′
   Start : {e : ℕ} {n n′ : Now}
-      → ⟦ notStarted (n .image) ≡ true ⟧ → c ⊢ ⇝enS 0 0 n n′
+      → ⟦ notStarted (n .image) ≡ true ⟧ → c ⊢ ⇝enS [] 0 n n′
       → c ⊢ ⇝Ch e n n′
