@@ -2,8 +2,8 @@
 -- path on which no segment comes twice performs no more than all transition actions. Assumes nothing.
 use mathlib.Core.Path.{_≡_, refl, ap, _∙_}
 use mathlib.Core.Logic.{inl, inr}
-use mathlib.Core.Bool.{Bool, true, false, _&&_}
-use mathlib.Core.List.{List, [], List·Memᴰ·cases-cons, List·Memᴰ·not-nil, List·Memᴰ·eq-of-singleton}
+use mathlib.Core.Bool.{Bool, true, _&&_}
+use mathlib.Core.List.{List, List·Memᴰ·cases-cons, List·Memᴰ·eq-of-singleton}
 use Prim.Native.Nat.{ℕ, zero, suc, _+_, _≤_, _<_}
 use native.Mathlib.Decide.{ℕ-discrete}
 use native.Mathlib.Omega.{arith}
@@ -15,7 +15,7 @@ use Rattle.rules.specs.Doing.{each, transitionPerformed}
 use Rattle.rules.specs.Fire.{leave, enter, arena, common, transit, fire}
 use Rattle.rules.specs.Bound.{G}
 use Rattle.rules.proofs.Laws.{clash, two}
-use Rattle.rules.proofs.Members.{Mem, first-mem, mem-below}
+use Rattle.rules.proofs.Members.{Mem, first-mem, else-mem, mem-below}
 use Rattle.rules.proofs.Distinct.{Distinct, light}
 use Rattle.rules.proofs.Taken.{Tree, Right, tree, transitionAction-valid}
 use Rattle.rules.proofs.Trees.{child-of-parent}
@@ -40,13 +40,8 @@ Going c s im = Good c im × Up c im s
 abbrev pub Path : Chart → List Segment → Type 0
 Path c path = (t : Segment) → Mem t path → t < segments c
 
-abbrev pub transitCost : Chart → Segment → ℕ
+abbrev transitCost : Chart → Segment → ℕ
 transitCost c t = transitionAction c t .count
-
-else-mem : {x : State} {xs : List State} (b : Bool) → Mem x (if b then [] else xs) → Mem x xs
-unfolding if_then_else_
-else-mem true m = absurd (List·Memᴰ·not-nil m)
-else-mem false m = m
 
 module _ (c : Chart) (rt : Right c) where
   tr : Tree c
@@ -75,7 +70,7 @@ module _ (c : Chart) (rt : Right c) where
     up-line (suc n) s u x m =
         elim (List·Memᴰ·cases-cons m) [
           | inl e ↦ rw e u
-          | inr m ↦ up-line n (parent c s) (up-parent s u) x (else-mem (eqb s 0) m)
+          | inr m ↦ up-line n (parent c s) (up-parent s u) x (else-mem (eqb s 0) m .1)
         ]
 
     up-first : (s : State) → Up c im s → (f : State → Bool) → Up c im (first f (line c deepest s))
@@ -97,7 +92,7 @@ module _ (c : Chart) (rt : Right c) where
       (t-action c tr (λ im e. e .moved .sound) (emptied-quiet c rt a im₀) (transitionAction c t)
       (transitionAction-valid c rt t h)))
 
-  pub t-transits : (a : State) (im₀ : Image) (path : List Segment) → Path c path
+  t-transits : (a : State) (im₀ : Image) (path : List Segment) → Path c path
       → Triple (Bounded c) (sumOver (transitCost c) path) (Emptied c a im₀) (each (transit c) path) (λ _. Emptied c a im₀)
   t-transits a im₀ path v = t-each-in (transitCost c) (transit c) path (λ t m. t-transit a im₀ t (v t m))
 

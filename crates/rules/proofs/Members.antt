@@ -10,7 +10,7 @@ use lib.Dec.{eqb}
 use lib.ListN.{length}
 use borrow.Author.Tests.{eq-eqb, eqb-true}
 use Rattle.rules.specs.Lists.{if_then_else_, upFrom, downFrom, below, range, every, any, keep, first, isIn}
-use Rattle.rules.proofs.Laws.{and-left, and-right, and-both, or-cases, or-left, or-right, two, not-yes}
+use Rattle.rules.proofs.Laws.{and-left, and-right, and-both, or-cases, or-left, or-right, two, clash, not-yes}
 
 abbrev pub Mem : ℕ → List ℕ → Type 0
 Mem x xs = List·Memᴰ x xs
@@ -120,6 +120,33 @@ first-mem f (y ∷ ys) =
       | inl e ↦ rw e (inr (List·Memᴰ·head refl, e))
       | inr e ↦ rw e (elim (first-mem f ys) [ inl q ↦ inl q | inr p ↦ inr (List·Memᴰ·tail (p .0), p .1) ])
     ]
+
+-- of one that alone passes, it is the first; of none, 0
+pub first-only : (f : ℕ → Bool) (xs : List ℕ) (q : ℕ) → Mem q xs → f q ≡ true → ((x : ℕ) → Mem x xs → f x ≡ true → x ≡ q)
+    → first f xs ≡ q
+unfolding first if_then_else_
+first-only f [] q m y u = absurd (List·Memᴰ·not-nil m)
+first-only f (x ∷ xs) q m y u =
+    elim (two (f x)) [
+      | inl e ↦ rw e (u x (List·Memᴰ·head refl) e)
+      | inr e ↦ rw e (first-only f xs q (elim (List·Memᴰ·cases-cons m) [ inl z ↦ clash y (rw z e) | inr i ↦ i ]) y
+          (λ z i. u z (List·Memᴰ·tail i)))
+    ]
+
+pub first-none : (f : ℕ → Bool) (xs : List ℕ) → ((x : ℕ) → Mem x xs → f x ≡ false) → first f xs ≡ 0
+unfolding first if_then_else_
+first-none f [] u = refl
+first-none f (x ∷ xs) u = rw (u x (List·Memᴰ·head refl)) (first-none f xs (λ y i. u y (List·Memᴰ·tail i)))
+
+-- nothing, or a list
+pub else-mem : {x : ℕ} {xs : List ℕ} (b : Bool) → Mem x (if b then [] else xs) → (b ≡ false) × Mem x xs
+unfolding if_then_else_
+else-mem true m = absurd (List·Memᴰ·not-nil m)
+else-mem false m = (refl, m)
+
+pub mem-else : {x : ℕ} {xs : List ℕ} (b : Bool) → b ≡ false → Mem x xs → Mem x (if b then [] else xs)
+unfolding if_then_else_
+mem-else b e m = rw e m
 
 pub upFrom-mem : (a n : ℕ) {x : ℕ} → Mem x (upFrom a n) → (a ≤ x) × (x < a + n)
 unfolding upFrom

@@ -154,13 +154,14 @@ module _ (c : Chart) (rt : Right c) where
 
   module _ (sending : Sending) (ss : Sends c (Good c) sending (λ _. Good c)) (e : ℕ) where
     module _ (p : State) (h : p < states c) where
-      -- a block that p owns, and what follows it where p is still there
+      -- a block that p owns
       pub t-owns : (k : Block) → Valid c k
           → Triple B (k .count) (Going c p) (perform (sentBy p sending) [] (code c k)) (How (Going c p) (Good c))
       t-owns k v =
           t-block c tr (Going c p) (Good c) (keeps-set c tr (λ im g. g .0 .sound) (going-quiet p))
           (t-sentBy c p (λ im g on. going h im (on, g)) (λ never e b l. t-pre (λ im g. g .0) (ss never e b l))) k v
 
+      -- and what follows it where p is still there
       t-owned : {A : Type 0} {b : ℕ} {Q : A → Claim} {m : Doing A} (k : Block) → Valid c k → (a : A) → Good c ⇒ Q a
           → Triple B b (Going c p) m Q
           → Triple B (k .count + b) (Going c p)

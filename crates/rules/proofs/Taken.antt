@@ -2,8 +2,8 @@
 -- whose instructions have their operands. Assumes nothing.
 use mathlib.Core.Path.{_≡_, refl}
 use mathlib.Core.Logic.{inl, inr}
-use mathlib.Core.Bool.{Bool, true, false, _&&_, Bool·beq, false≢true}
-use mathlib.Core.List.{List, Memᴰ·of-map}
+use mathlib.Core.Bool.{Bool, true, false, _&&_, not, Bool·beq, false≢true}
+use mathlib.Core.List.{List, [], _∷_, Memᴰ·of-map}
 use Prim.Native.Nat.{ℕ, _-_, _%_, _≤_, _<_}
 use native.Mathlib.Omega.{arith}
 use lib.Dec.{eqb, leb, ltb}
@@ -15,8 +15,8 @@ use Rattle.rules.specs.Lists.{if_then_else_, upFrom, downFrom, below, ra
 use Rattle.rules.specs.Chart as C
 use Rattle.rules.specs.Chart.{State, Segment, Chart, Block, Instruction, states, junctions, segments, variables, events, instructions, parent, kind, initial, entry, during, exit, destination, destinationKind, condition, conditionAction, transitionAction, instruction, code, isOneOf, keepsHistory, endsOnState, children, childrenDown, over}
 use Rattle.rules.specs.Accept as A
-use Rattle.rules.specs.Accept.{opRule, isNone, operandsRight, stateRight, statesRight, segmentRight, everyBlock, blockRight, blocksRight, instructionRight, countsRight, chartRefusal}
-use Rattle.rules.proofs.Laws.{every-at, both, and-left, and-right, two, unless-zero}
+use Rattle.rules.specs.Accept.{opRule, isNone, operandsRight, stateRight, statesRight, segmentRight, everyBlock, blockRight, blocksRight, instructionRight, nothingBarred, isSend, countsRight, chartRefusal}
+use Rattle.rules.proofs.Laws.{every-at, both, and-left, and-right, and-both, two, unless-zero}
 use Rattle.rules.proofs.Members.{Mem, mem-every, keep-mem, mem-keep, isIn-mem, upFrom-mem, range-mem, mem-range, downFrom-mem, mem-downFrom, every-below}
 
 -- the tests of a list, one by one
@@ -68,6 +68,7 @@ pub record Right (c : Chart) : Type 0 where
   pub segmentRules : every (segmentRight c) (below (segments c)) ≡ true
   pub blockRules : blocksRight c ≡ true
   pub instructionRules : every (instructionRight c) (below (instructions c)) ≡ true
+  pub barRules : everyBlock c (nothingBarred c) ≡ true
 
 pub right : (c : Chart) → chartRefusal c ≡ 0 → Right c
 unfolding chartRefusal
@@ -81,7 +82,9 @@ right c e =
     let (t7, e7) = unless-zero 6 _ _ e6 in
     let (t8, e8) = unless-zero 7 _ _ e7 in
     let (t9, e9) = unless-zero 8 _ _ e8 in
-    record { counts = t3; stateRules = t6; segmentRules = t7; blockRules = t8; instructionRules = t9 }
+    let (t10, e10) = unless-zero 9 _ _ e9 in
+    let (t11, e11) = unless-zero 10 _ _ e10 in
+    record { counts = t3; stateRules = t6; segmentRules = t7; blockRules = t8; instructionRules = t9; barRules = t11 }
 
 -- what the counts and the rules for states say
 pub record Tree (c : Chart) : Type 0 where
@@ -115,7 +118,8 @@ module _ (c : Chart) (r : Right c) where
         leaves = λ s h e. eqb-true _ _ (alike _ (rw (eq-eqb _ _ e) at (each-of _ (state-rules s h) 3 (omega arith))));
         initials = λ s h o. children-mem c s (isIn-mem _ _ (rw o at (each-of _ (state-rules s h) 4 (omega arith))));
         histories = λ s h o.
-            ne-eqb (C.history c s) 1 (λ q. omega (arith, leb-true (C.history c s) 0 (rw o at (each-of _ (state-rules s h) 5 (omega arith)))));
+            let none = leb-true (C.history c s) 0 (rw o at (each-of _ (state-rules s h) 5 (omega arith))) in
+            ne-eqb (C.history c s) 1 (λ q. omega arith);
       }
     where
       count : (1 ≤ states c) × (states c ≤ 64)
@@ -144,7 +148,8 @@ module _ (c : Chart) (r : Right c) where
   pub to-state : (t : Segment) → t < segments c → endsOnState c t ≡ true → destination c t < states c
   unfolding A.endRight if_then_else_
   to-state t h e =
-      let other : eqb (destinationKind c t) 1 ≡ false = ne-eqb (destinationKind c t) 1 (λ q. omega (arith, eqb-true (destinationKind c t) 0 e)) in
+      let k = destinationKind c t in
+      let other : eqb k 1 ≡ false = ne-eqb k 1 (λ q. omega (arith, eqb-true k 0 e)) in
       ltb-true _ _ (three (ltb (destinationKind c t) 1) _ _ (rw other at (end-right t h)) .2)
 
 -- a block of an accepted chart: where its instructions stand, and that each has its operands
@@ -209,6 +214,51 @@ module _ (c : Chart) (r : Right c) where
 
   pub transitionAction-valid : (t : Segment) → t < segments c → Valid c (transitionAction c t)
   transitionAction-valid t h = of-segment t h .2
+
+-- a block without a send: an entry, exit or transition action
+abbrev pub Silent : List Instruction → Type 0
+Silent is = every (λ i. not (isSend (i .op))) is ≡ true
+
+silent-op : (o : C.Op) → not (A.barred A.inAction (opRule o .effect)) ≡ true → not (isSend o) ≡ true
+unfolding isSend A.barred
+silent-op o e = go (opRule o .effect) e
+  where
+    go : (f : A.Effect) → not (A.barred A.inAction f) ≡ true
+        → not (elim f [ A.none ↦ false | A.acts ↦ false | A.sends ↦ true ]) ≡ true
+    go A.none e = refl
+    go A.acts e = refl
+    go A.sends e = e
+
+silent-code : (is : List Instruction) → every (λ i. not (A.barred A.inAction (opRule (i .op) .effect))) is ≡ true → Silent is
+unfolding every
+silent-code [] e = refl
+silent-code (i ∷ is) e =
+    let (here, rest) = both (not (A.barred A.inAction (opRule (i .op) .effect))) _ e in
+    and-both (not (isSend (i .op))) _ (silent-op (i .op) here) (silent-code is rest)
+
+module _ (c : Chart) (r : Right c) where
+  silent : (k : Block) → nothingBarred c A.inAction k ≡ true → Silent (code c k)
+  unfolding nothingBarred
+  silent k e = silent-code (code c k) e
+
+  state-silent : (s : State) → s < states c → Silent (code c (entry c s)) × Silent (code c (exit c s))
+  unfolding everyBlock
+  state-silent s h =
+      let (a, b, d) = three (nothingBarred c A.inAction (entry c s)) _ _
+      (every-below _ (states c) (and-left _ _ (r .barRules)) s h) in
+      (silent (entry c s) a, silent (exit c s) d)
+
+  pub entry-silent : (s : State) → s < states c → Silent (code c (entry c s))
+  entry-silent s h = state-silent s h .0
+
+  pub exit-silent : (s : State) → s < states c → Silent (code c (exit c s))
+  exit-silent s h = state-silent s h .1
+
+  pub transition-silent : (t : Segment) → t < segments c → Silent (code c (transitionAction c t))
+  unfolding everyBlock
+  transition-silent t h =
+      silent (transitionAction c t) (three (nothingBarred c A.inCondition (condition c t)) _ _
+      (every-below _ (segments c) (and-right (every _ (below (states c))) _ (r .barRules)) t h) .2)
 
 -- the state that a send names is one of the chart's, and its number is b itself
 named : (c : Chart) → states c ≤ 64 → (b : ℤ) → A.anyState c b ≡ true

@@ -1,13 +1,17 @@
--- The tree of states: what is below a state, and how deep a state is. Assumes nothing.
+-- The tree of states: what is below a state, how deep a state is, and that to be over a state is to have it below, or to be it.
+-- Assumes nothing.
 use mathlib.Core.Path.{_≡_, refl, sym, subst}
-use mathlib.Core.Bool.{false}
+use mathlib.Core.Logic.{_⊎_, inl, inr}
+use mathlib.Core.Bool.{true, false}
+use mathlib.Core.List.{List·Memᴰ·head, List·Memᴰ·tail, List·Memᴰ·cases-cons, List·Memᴰ·eq-of-singleton}
 use Prim.Native.Nat.{ℕ, zero, suc, _≤_, _<_}
 use native.Mathlib.Omega.{arith}
 use lib.Dec.{eqb}
-use borrow.Author.Tests.{ne-eqb}
+use borrow.Author.Tests.{ne-eqb, eqb-false}
 use Rattle.rules.specs.Lists.{any, isIn}
-use Rattle.rules.specs.Chart.{State, Chart, states, parent, line, over}
+use Rattle.rules.specs.Chart.{State, Chart, states, deepest, parent, line, over}
 use Rattle.rules.proofs.Laws.{clash, or-no, if-false}
+use Rattle.rules.proofs.Members.{Mem, isIn-mem, mem-isIn, else-mem, mem-else}
 use Rattle.rules.proofs.Taken.{Child, Tree}
 
 -- x is k, or is below k
@@ -58,3 +62,43 @@ module _ (c : Chart) (tr : Tree c) where
   pub deep-end : (n : ℕ) (s : State) → n ≡ 9 → s < states c → Deep c n s → ⊥
   unfolding over
   deep-end n s e h d = clash (tr .depth s h) (rw e at d)
+
+  -- to be over a state is to have it below, or to be it
+  line-below : (n : ℕ) (x : State) → x < states c → {k : State} → Mem k (line c n x) → Below c k x
+  unfolding line
+  line-below zero x h m = rw (List·Memᴰ·eq-of-singleton m) here
+  line-below (suc n) x h {k} m =
+      elim (List·Memᴰ·cases-cons m) [
+        | inl e ↦ rw e here
+        | inr m ↦
+            let (z, i) = else-mem (eqb x 0) m in
+            let z′ : 0 < x = omega (arith, eqb-false x 0 z) in
+            let up = tr .up x h z′ in
+            under z′ h (line-below n (parent c x) (omega arith) i)
+      ]
+
+  pub over-below : {k x : State} → x < states c → over c k x ≡ true → Below c k x
+  unfolding over
+  over-below {k} {x} h e = line-below deepest x h (isIn-mem k (line c deepest x) e)
+
+  -- a line that comes to the root passes whatever is above
+  below-line : (n : ℕ) {k x : State} → Below c k x → Mem 0 (line c n x) → Mem k (line c n x)
+  unfolding line
+  below-line zero here r = List·Memᴰ·head refl
+  below-line (suc n) here r = List·Memᴰ·head refl
+  below-line zero (under {x = x} z h b) r = let e = List·Memᴰ·eq-of-singleton r in absurd (omega arith)
+  below-line (suc n) (under {x = x} z h b) r =
+      elim (List·Memᴰ·cases-cons r) [
+        | inl e ↦ absurd (omega arith)
+        | inr i ↦ let (q, j) = else-mem (eqb x 0) i in List·Memᴰ·tail (mem-else (eqb x 0) q (below-line n b j))
+      ]
+
+  pub below-over : {k x : State} → x < states c → Below c k x → over c k x ≡ true
+  unfolding over
+  below-over {k} {x} h b = mem-isIn k (line c deepest x) (below-line deepest b (isIn-mem 0 (line c deepest x) (tr .depth x h)))
+
+  -- of two states above a third one is above the other
+  pub comparable : {a b x : State} → Below c a x → Below c b x → Below c a b ⊎ Below c b a
+  comparable here q = inr q
+  comparable (under z h p) here = inl (under z h p)
+  comparable (under z h p) (under z′ h′ q) = comparable p q

@@ -3,9 +3,9 @@
 use mathlib.Core.Path.{_≡_, refl, sym}
 use mathlib.Core.Logic.{inl, inr}
 use mathlib.Core.List.{List, [], _∷_, _++_, List·Memᴰ·head, List·Memᴰ·tail, List·Memᴰ·cases-cons, List·Memᴰ·not-nil, List·Memᴰ·append-cases, Memᴰ·cast}
-use Prim.Native.Nat.{ℕ, zero, suc, _+_, _≤_, _<_}
+use Prim.Native.Nat.{ℕ, zero, suc, _+_, _-_, _≤_, _<_}
 use native.Mathlib.Omega.{arith}
-use Rattle.rules.specs.Lists.{below, range, sumOver}
+use Rattle.rules.specs.Lists.{downFrom, below, range, sumOver}
 use Rattle.rules.specs.Chart.{State, Chart, states, parent, children, childrenDown}
 use Rattle.rules.proofs.Members.{Mem, mem-below, range-mem, mem-range}
 use Rattle.rules.proofs.Taken.{Child, children-mem, childrenDown-mem, mem-children, Tree}
@@ -59,10 +59,13 @@ module _ (c : Chart) where
       distinct-append (children c p) (kin ps) (children-distinct p) (kin-distinct ps (d .1))
       (λ k m n. d .0 (Memᴰ·cast (sym (children-mem c p m .of)) (kin-mem ps n .0)))
 
-  pub down-light : (w : State → ℕ) (s : State) → sumOver w (childrenDown c s) ≤ sumOver w (children c s)
+  pub down-distinct : (p : State) → Distinct (childrenDown c p)
   unfolding childrenDown
+  down-distinct p = keep-distinct _ (downFrom (states c - 1)) (downFrom-distinct (states c - 1))
+
+  pub down-light : (w : State → ℕ) (s : State) → sumOver w (childrenDown c s) ≤ sumOver w (children c s)
   down-light w s =
-      light w (childrenDown c s) (children c s) (keep-distinct _ _ (downFrom-distinct _))
+      light w (childrenDown c s) (children c s) (down-distinct s)
       (λ k m. mem-children c s k (childrenDown-mem c s m))
 
   module _ (tr : Tree c) where

@@ -10,32 +10,35 @@ use native.Mathlib.Omega.{arith}
 use lib.Dec.{eqb}
 use borrow.Author.Tests.{ne-eqb}
 use Rattle.rules.specs.Lists.{if_then_else_, every, first}
-use Rattle.rules.specs.Chart.{State, Segment, Chart, Instruction, states, segments, during, isOneOf, children, outer, inner, code}
+use Rattle.rules.specs.Chart as C
+use Rattle.rules.specs.Accept.{isSend, opRule}
+use Rattle.rules.specs.Chart.{State, Segment, Chart, Op, Instruction, states, segments, entry, during, exit, transitionAction, isOneOf, children, outer, inner, code}
 use Rattle.rules.specs.Image.{isActive, notStarted, accepted}
 use Rattle.rules.specs.Doing.{Now, Done, pay, duringPoint, segmentPassed, note, each, whenActive}
-use Rattle.rules.specs.Block.{Stack, Ran, ran, abandoned, unlessAbandoned, sentBy, instruct, perform}
+use Rattle.rules.specs.Block.{Stack, Ran, ran, abandoned, unlessAbandoned, noSend, sentBy, instruct, perform}
 use Rattle.rules.specs.Search.{Found, reached, nowhere, ended, cut, passes, search}
 use Rattle.rules.specs.Fire.{levels, leaveEach, noteLeft, leave, enterEach, enter, arena, transit, fire}
 use Rattle.rules.specs.Run.{follow, runActive, runChildren, runInside, runDuring, run, send, start, step}
-use Rattle.rules.proofs.Laws.{both}
+use Rattle.rules.proofs.Laws.{both, clash}
 use Rattle.rules.proofs.Members.{Mem, isIn-mem}
-use Rattle.rules.proofs.Taken.{Child, Tree, Right, hasOperands, tree, children-mem, during-valid, conditionAction-valid}
+use Rattle.rules.proofs.Taken.{Child, Tree, Right, hasOperands, Silent, tree, children-mem, entry-silent, exit-silent, transition-silent, during-valid, conditionAction-valid}
 use Rattle.rules.proofs.Trees.{Deep, deep-child, deep-end}
 use Rattle.rules.proofs.Soundness.{Sound}
 use Rattle.rules.proofs.Shape.{Good}
 use Rattle.rules.proofs.Firing.{Going, Path, up-root, up-arena}
-use Rattle.rules.proofs.Running.{Reach, Got, no-way, going, t-send, t-owns, t-search, t-run, t-passes}
+use Rattle.rules.proofs.Running.{Reach, Got, no-way, going, t-send, t-owns, t-run, t-passes}
 use Rattle.rules.proofs.Accepting.{sound, started-good}
 use Rattle.semantics.specs.Relation as R
 use Rattle.semantics.specs.Relation.{Arrow, _⊢_, Gives, Goes, ActiveChild, Descent, tail, towards, NoState, failed, terminal}
 use Rattle.semantics.proofs.Inverting.{kept, paid, noted, then-goes, bind-goes, give-goes, done-goes, look-goes, yes-goes, no-goes, active-goes, idle-goes, none-goes, more-goes}
-use Rattle.semantics.proofs.Exits.{Standing, Remaining, standing-child, standing-first, remaining-rest, left-after, exO-goes, unrecorded-goes, exS1-goes, exA-goes}
+use Rattle.semantics.proofs.Actions.{silent-here, skip-goes, seq-goes, cut-goes, action-goes, transit-goes}
+use Rattle.semantics.proofs.Exits.{from-records, Standing, Remaining, standing-child, standing-first, remaining-rest, left-after, exO-goes, unrecorded-goes, exS1-goes, exA-goes}
 use Rattle.semantics.proofs.Towards.{Towards, on-way, off-way, each-way}
 use Rattle.semantics.proofs.Entries.{all-goes, enO1-goes, enO2-goes, enO3-goes, enter-goes, ready-sound, record-child, no-record, enter-sound}
-use Rattle.semantics.proofs.Acts.{named, plain-goes, send-goes, unsend-goes, skip-goes, seq-goes, cut-goes, ins-kept}
-use Rattle.semantics.proofs.Searching.{along-nothing}
+use Rattle.semantics.proofs.Sends.{named, plain-goes, send-goes, unsend-goes, ins-kept}
+use Rattle.semantics.proofs.Searching.{passes-goes, along-nothing}
 use Rattle.semantics.proofs.Found.{Passing, Finds, none-tried, fail-goes, reached-stops, ended-stops, cut-stops, next-goes, nowhere-kept, state-goes, early-goes, junction-goes}
-use Rattle.semantics.proofs.Sound.{active-child, standing, transit-sound, outer-real, inner-real}
+use Rattle.semantics.proofs.Sound.{active-child, standing, transit-sound, searched-kept, outer-real, inner-real}
 
 -- the children of p are m levels down; so is each of a list
 abbrev Down : Chart → ℕ → State → Type 0
@@ -47,9 +50,12 @@ At c m ps = (k : State) → Mem k ps → (k < states c) × Deep c m k
 -- what an arrow says of the definitions, m levels down with d to go
 abbrev Meaning : Chart → Arrow → Type 0
 Meaning c (R.⇝i k p st i n n′ r) =
-    hasOperands c i ≡ true → Going c p (n .image) → Gives (instruct (sentBy p (send c k)) (i .op) i st) n r n′
+    (hasOperands c i ≡ true → Going c p (n .image) → Gives (instruct (sentBy p (send c k)) (i .op) i st) n r n′)
+    × (isSend (i .op) ≡ false → Gives (instruct noSend (i .op) i st) n r n′)
 Meaning c (R.⇝a k p st is n n′ r) =
-    every (hasOperands c) is ≡ true → Going c p (n .image) → Gives (perform (sentBy p (send c k)) st is) n r n′
+    (every (hasOperands c) is ≡ true → Going c p (n .image) → Gives (perform (sentBy p (send c k)) st is) n r n′)
+    × (Silent is → Gives (perform noSend st is) n r n′)
+Meaning c (R.⇝at p path n n′) = Path c path → Goes (each (transit c) path) n n′
 Meaning c (R.⇝t k e p l t n n′ b) = t < segments c → Going c p (n .image) → Passing c k e p l t n n′ b
 Meaning c (R.⇝tl k e p l ts n n′ o) = Finds c k e p l ts n n′ o
 Meaning c (R.⇝exS p n n′) =
@@ -87,15 +93,16 @@ module _ (c : Chart) (rt : Right c) where
   tr = tree c rt
 
   fire-goes : (p s : State) (path : List Segment) → Reach c s path → (h : List State) (n n₁ n₂ n₃ : Now) → Going c p (n .image)
-      → Meaning c (R.⇝exC (arena c p s path) n n₁) → Goes (each (transit c) path) n₁ n₂ → Descent c (arena c p s path) h s
+      → Meaning c (R.⇝exC (arena c p s path) n n₁) → Meaning c (R.⇝at p path n₁ n₂) → Descent c (arena c p s path) h s
       → Meaning c (R.⇝enC h (arena c p s path) n₂ n₃) → Goes (fire c p s path) n n₃
   unfolding fire
   fire-goes p s path r h n n₁ n₂ n₃ (g, u) x y d z =
       let a = up-arena c rt (n .image) g p s path u in
       let exits = x 9 0 refl (a .state) (λ k ch. tt) (standing c rt g a) in
+      let acts = y (r .route .inside) in
       then-goes exits
-      (then-goes y (z 9 0 refl s (r .state) (inl d) (a .state) (λ k ch. tt)
-      (transit-sound c rt (arena c p s path) path (r .route .inside) (g .sound) exits y)))
+      (then-goes acts (z 9 0 refl s (r .state) (inl d) (a .state) (λ k ch. tt)
+      (transit-sound c rt (arena c p s path) path (r .route .inside) (g .sound) exits acts)))
 
   module _ (k e : ℕ) (p : State) where
     -- what a state's list finds
@@ -112,10 +119,6 @@ module _ (c : Chart) (rt : Right c) where
     none-found [] real n n′ o s (a, b) g = (nowhere, failed, rw b (none-tried c k e p 128 []))
     none-found (t ∷ ts) real n n′ o s x g =
         (o, s, rw (along-nothing o) at (x 128 [] refl (omega arith) (λ u i. no-way c rt u (real u i)) g))
-
-    searched-kept : (ts : List Segment) → Path c ts → {n n′ : Now} {o : Found} → Gives (search c (send c k) e p ts) n o n′
-        → Going c p (n .image) → Got c p o (n′ .image)
-    searched-kept ts real w g = kept (t-search c rt (send c k) (t-send c rt k) e p (g .1 .state) ts real) w g
 
     -- with no state found the run goes on, and p is there
     follow-none : (o : Found) (m : Done) {n n′ : Now} → NoState o → Got c p o (n .image) → (Going c p (n .image) → Goes m n n′)
@@ -156,7 +159,7 @@ module _ (c : Chart) (rt : Right c) where
           let real = outer-real c rt p in
           let g₁ = paid (Going c p) pd g in
           let (o′, s′, y) = none-found (outer c p) real n₁ n₂ o s x g₁ in
-          run-goes o′ pd y (follow-none o′ _ s′ (searched-kept (outer c p) real y g₁) w)
+          run-goes o′ pd y (follow-none o′ _ s′ (searched-kept c rt k e p (outer c p) real y g₁) w)
 
       during-goes : (r : Ran) {n n₁ n₂ n₃ : Now} → Goes (note duringPoint p) n n₁
           → Gives (perform (sentBy p (send c k)) [] (code c (during c p))) n₁ r n₂
@@ -191,16 +194,16 @@ module _ (c : Chart) (rt : Right c) where
         → Goes (run c (send c k) e (suc d) p) n n₅
     after-during d o pd g x s i a w =
         outer-none d o pd g x s (λ g₂.
-        let a′ = a (during-valid c rt p (g .1 .state) .operands) (noted (Going c p) duringPoint p i g₂) in
+        let a′ = a .0 (during-valid c rt p (g .1 .state) .operands) (noted (Going c p) duringPoint p i g₂) in
         during-goes d _ i a′ (w (during-kept i a′ g₂)))
 
     -- a path is found, and fired
     fires : (ts : List Segment) → Path c ts → (m : Done) (s : State) (path : List Segment) (h : List State) (n n₁ n₂ n₃ n₄ : Now)
         → Going c p (n .image) → Gives (search c (send c k) e p ts) n (reached s path) n₁
-        → Meaning c (R.⇝exC (arena c p s path) n₁ n₂) → Goes (each (transit c) path) n₂ n₃ → Descent c (arena c p s path) h s
+        → Meaning c (R.⇝exC (arena c p s path) n₁ n₂) → Meaning c (R.⇝at p path n₂ n₃) → Descent c (arena c p s path) h s
         → Meaning c (R.⇝enC h (arena c p s path) n₃ n₄) → Goes (follow c p (reached s path) m) n₁ n₄
     fires ts real m s path h n n₁ n₂ n₃ n₄ g y x a d z =
-        let (r, g₁) = searched-kept ts real y g in
+        let (r, g₁) = searched-kept c rt k e p ts real y g in
         follow-state s path m (fire-goes p s path r h n₁ n₂ n₃ n₄ g₁ x a d z)
 
     runO-goes : (d : ℕ) {q : State} {n n′ : Now} → isOneOf c p ≡ true → Going c p (n .image) → ActiveChild c (n .image) p q
@@ -251,33 +254,55 @@ module _ (c : Chart) (rt : Right c) where
   unfolding step if_then_else_
   step-goes e s w = record { is = rw s (w .is) }
 
+  sends : (o : Op) → o ≡ C.send → isSend o ≡ true
+  unfolding isSend opRule
+  sends o q = rw q
+
   -- each rule
   goes : {j : Arrow} → c ⊢ j → Meaning c j
-  goes (R.SendF {k = k} {p = p} {b = b} {st = st} {i = i} {n = n} q to on x) = λ v g.
-      let state = named c rt k p b i st v q to .0 in
-      send-goes c rt k p b i st v q to on (goes x 9 0 refl tt (going c rt state (n .image) (on, g .0)))
-  goes (R.SendN {k = k} {p = p} {b = b} {st = st} {i = i} q to off) = λ v g. unsend-goes c rt k p b i st v q to (g .1 .on) off
-  goes (R.Plain {k = k} {p = p} {st = st} {i = i} ne w) = λ v g. plain-goes c rt k p i st ne w
-  goes (R.Skip {k = k} {p = p} {st = st}) = λ v g. skip-goes c rt k p st
-  goes (R.SeqT {k = k} {p = p} {st = st} {st₁ = st₁} {i = i} {is = is} pd x y) = λ v g.
-      let (v₁, v₂) = here i is v in
-      let g₁ = paid (Going c p) pd g in
-      let x′ = goes x v₁ g₁ in
-      seq-goes c rt k p i is st pd x′ (goes y v₂ (ins-kept c rt k p i st (ran st₁) v₁ g₁ x′))
-  goes (R.SeqF {k = k} {p = p} {st = st} {i = i} {is = is} pd x) = λ v g.
-      cut-goes c rt k p i is st pd (goes x (here i is v .0) (paid (Going c p) pd g))
+  goes (R.SendF {k = k} {p = p} {b = b} {st = st} {i = i} {n = n} q to on x) = (
+    λ v g.
+        let state = named c rt k p b i st v q to .0 in
+        send-goes c rt k p b i st v q to on (goes x 9 0 refl tt (going c rt state (n .image) (on, g .0))),
+    λ ne. clash (sends (i .op) q) ne,
+  )
+  goes (R.SendN {k = k} {p = p} {b = b} {st = st} {i = i} q to off) = (
+    λ v g. unsend-goes c rt k p b i st v q to (g .1 .on) off,
+    λ ne. clash (sends (i .op) q) ne,
+  )
+  goes (R.Plain {k = k} {p = p} {st = st} {i = i} ne w) = (λ v g. plain-goes c rt k p i st ne w, λ ne. w)
+  goes (R.SeqT {k = k} {p = p} {st = st} {st₁ = st₁} {i = i} {is = is} pd x y) = (
+    λ v g.
+        let (v₁, v₂) = here i is v in
+        let g₁ = paid (Going c p) pd g in
+        let x′ = goes x .0 v₁ g₁ in
+        seq-goes (sentBy p (send c k)) i is st pd x′ (goes y .0 v₂ (ins-kept c rt k p i st (ran st₁) v₁ g₁ x′)),
+    λ s. let (ne, rest) = silent-here i is s in seq-goes noSend i is st pd (goes x .1 ne) (goes y .1 rest),
+  )
+  goes (R.SeqF {k = k} {p = p} {st = st} {i = i} {is = is} pd x) = (
+    λ v g. cut-goes (sentBy p (send c k)) i is st pd (goes x .0 (here i is v .0) (paid (Going c p) pd g)),
+    λ s. cut-goes noSend i is st pd (goes x .1 (silent-here i is s .0)),
+  )
+  goes (R.Skip {k = k} {p = p} {st = st}) = (λ v g. skip-goes (sentBy p (send c k)) st, λ s. skip-goes noSend st)
+  goes (R.SeqP {t = t} {path = path} i a x) = λ real.
+      let done = action-goes c rt (transitionAction c t) (goes a .1 (transition-silent c rt t (real t (List·Memᴰ·head refl)))) in
+      transit-goes c rt t path i done (goes x (λ u j. real u (List·Memᴰ·tail j)))
+  goes R.SkipP = λ real. none-goes _
   goes (R.TrT {e = e} {p = p} {t = t} x l i a) = λ real g.
       let valid = conditionAction-valid c rt t real in
-      let g₂ = passed-going p e t real x i g in
-      record { n₁ = _; n₂ = _; how = _; enabled = x; few = l; noted = i; acted = goes a (valid .operands) g₂; says = refl }
+      let x′ = passes-goes c e t x in
+      let g₂ = passed-going p e t real x′ i g in
+      record { n₁ = _; n₂ = _; how = _; enabled = x′; few = l; noted = i; acted = goes a .0 (valid .operands) g₂; says = refl }
   goes (R.TrF {e = e} {p = p} {t = t} x l i a) = λ real g.
       let valid = conditionAction-valid c rt t real in
-      let g₂ = passed-going p e t real x i g in
-      record { n₁ = _; n₂ = _; how = _; enabled = x; few = l; noted = i; acted = goes a (valid .operands) g₂; says = refl }
+      let x′ = passes-goes c e t x in
+      let g₂ = passed-going p e t real x′ i g in
+      record { n₁ = _; n₂ = _; how = _; enabled = x′; few = l; noted = i; acted = goes a .0 (valid .operands) g₂; says = refl }
   goes (R.ToS {k = k} {e = e} {l = l} {p = p} {t = t} {ts = ts} pd x s) = λ m path z q ways g.
       state-goes c rt k e p l t m path ts z q ways pd g (goes x) s
   goes (R.ToJ1 {k = k} {e = e} {l = l} {p = p} {d = d} {t = t} {ts = ts} {path = rest} pd x s y) = λ m path z q ways g.
-      junction-goes c rt k e p l t m path ts z q ways pd g (reached d rest) (goes x) s (goes y) (λ g₂ few. reached-stops c k e p _)
+      junction-goes c rt k e p l t m path ts z q ways pd g (reached d rest) (goes x) s (goes y)
+      (λ g₂ few. reached-stops c k e p _)
   goes (R.ToJ2 {k = k} {e = e} {l = l} {p = p} {t = t} {t′ = t′} {ts = ts} {n₂ = n₂} {n₃ = n₃} pd x s y w) = λ m path z q ways g.
       junction-goes c rt k e p l t m path (t′ ∷ ts) z q ways pd g nowhere (goes x) s (goes y) (λ g₂ few.
       let g₃ = nowhere-kept c rt k e p l t path n₂ n₃ z few (ways t (List·Memᴰ·head refl)) s g₂ (goes y) in
@@ -289,20 +314,23 @@ module _ (c : Chart) (rt : Right c) where
       junction-goes c rt k e p l t m path ts z q ways pd g ended (goes x) s (goes y) (λ g₂ few. ended-stops c k e p _)
   goes (R.Ind {k = k} {e = e} {p = p} {t = t} {t′ = t′} {ts = ts} pd x w) = λ m path z q ways g.
       let way = ways t (List·Memᴰ·head refl) in
-      fail-goes c k e p m path (t′ ∷ ts) t pd x (goes w m path z q (λ u i. ways u (List·Memᴰ·tail i))
-      (kept (t-passes c rt p e t (way .real)) x (paid (Going c p) pd g)))
+      let x′ = passes-goes c e t x in
+      fail-goes c k e p m path (t′ ∷ ts) t pd x′ (goes w m path z q (λ u i. ways u (List·Memᴰ·tail i))
+      (kept (t-passes c rt p e t (way .real)) x′ (paid (Going c p) pd g)))
   goes (R.Fail {k = k} {e = e} {p = p} {t = t} pd x) = λ m path z q ways g.
-      fail-goes c k e p m path [] t pd x (none-tried c k e p m path)
+      fail-goes c k e p m path [] t pd (passes-goes c e t x) (none-tried c k e p m path)
   goes R.Ter = (refl, refl)
   goes (R.ToE1 {k = k} {e = e} {l = l} {p = p} {t = t} {ts = ts} pd x) = λ m path z q ways g.
       early-goes c rt k e p l t m path ts z q ways pd g (goes x)
   goes (R.ToE2 {k = k} {e = e} {l = l} {p = p} {t = t} {ts = ts} pd x s y) = λ m path z q ways g.
       junction-goes c rt k e p l t m path ts z q ways pd g cut (goes x) s (goes y) (λ g₂ few. cut-stops c k e p _)
   goes (R.exS1 {p = p} pd x a o i) = λ d m l h deep s n″ r.
-      exS1-goes c rt pd (λ d′ m′ l′ down. goes x d′ m′ l′ h down (paid (Standing c p) pd s)) a o i r d m l h deep
+      let done = action-goes c rt (exit c p) (goes a .1 (exit-silent c rt p h)) in
+      exS1-goes c rt pd (λ d′ m′ l′ down. goes x d′ m′ l′ h down (paid (Standing c p) pd s)) done o i r d m l h deep
   goes (R.exO {p = p} {q = q} {n = n} {n₂ = n₂} o a x r) = λ d m l h deep s.
       let ch = children-mem c p (isIn-mem q (children c p) (a .child)) in
-      exO-goes c rt d m l h o deep s a (goes x d m l (ch .state) (deep q ch) (standing-child c rt ch s (a .active)) n₂ r)
+      let left = goes x d m l (ch .state) (deep q ch) (standing-child c rt ch s (a .active)) n₂ (from-records c ch r) in
+      exO-goes c rt d m l h o deep s a left
   goes R.exSL0 = λ d m l p h o deep r. none-goes _
   goes (R.exSL {p = k} {ps = ks} {n₁ = n₁} x y) = λ d m l p h o deep r.
       let ch = r .kids k (List·Memᴰ·head refl) in
@@ -311,8 +339,9 @@ module _ (c : Chart) (rt : Right c) where
       more-goes _ k ks (active-goes k _ (r .on k (List·Memᴰ·head refl)) v) (goes y d m l p h o deep (remaining-rest c rt r le))
   goes (R.exA {p = p} o x) = λ d m l h deep s. exA-goes c rt d h o s (λ r. goes x d m l p h o deep r)
   goes (R.enS {p = p} pd o i a x) = λ d m l t real way q deep s.
+      let done = action-goes c rt (entry c p) (goes a .1 (entry-silent c rt p q)) in
       enS-goes t p (λ d′ m′ l′ down.
-      enter-goes c rt d′ t p pd o i a (goes x d′ m′ l′ t real way q down (ready-sound c rt q pd o i a s))) d m l q deep
+      enter-goes c rt d′ t p pd o i done (goes x d′ m′ l′ t real way q down (ready-sound c rt q pd o i done s))) d m l q deep
   goes (R.enO1 {p = p} {q = k} o x) = λ d m l t real way q deep s.
       let (e, ch, b, next) = on-way c rt t real way in
       enO1-goes c (enter c d t) t p o e (ch .above) (goes x d m l t real next (ch .state) (deep k ch) s)
@@ -341,18 +370,18 @@ module _ (c : Chart) (rt : Right c) where
       let g₁ = paid (Going c p) pd g in
       let y = found k e p (outer c p) (outer-real c rt p) n₁ n₂ _ not-reached (goes x) g₁ in
       run-goes k e p d _ pd y
-      (fires k e p (outer c p) (outer-real c rt p) _ s path h n₁ n₂ n₃ n₄ n₅ g₁ y (goes ex) a way (goes en)))
+      (fires k e p (outer c p) (outer-real c rt p) _ s path h n₁ n₂ n₃ n₄ n₅ g₁ y (goes ex) (goes a) way (goes en)))
   goes (R.runS2 {k = k} {e = e} {p = p} {s = s} {path = path} {h = h} {o = o} {st = st} {n = n} {n₄ = n₄} {n₅ = n₅} {n₆ = n₆}
       {n₇ = n₇} {n₈ = n₈} pd x none i b y ex a way en) =
       level k e p n n₈ (λ d m l deep g. after-during k e p d o pd g (goes x) none i (goes b) (λ g₄.
       let z = found k e p (inner c p) (inner-real c rt p) n₄ n₅ _ not-reached (goes y) g₄ in
       ran-goes k e p d st _ z
-      (fires k e p (inner c p) (inner-real c rt p) _ s path h n₄ n₅ n₆ n₇ n₈ g₄ z (goes ex) a way (goes en))))
+      (fires k e p (inner c p) (inner-real c rt p) _ s path h n₄ n₅ n₆ n₇ n₈ g₄ z (goes ex) (goes a) way (goes en))))
   goes (R.runS3 {k = k} {e = e} {p = p} {o = o} {o′ = o′} {st = st} {n = n} {n₄ = n₄} {n₅ = n₅} {n₆ = n₆} pd x s i b y s′ w) =
       level k e p n n₆ (λ d m l deep g. after-during k e p d o pd g (goes x) s i (goes b) (λ g₄.
       let (o″, s″, z) = none-found k e p (inner c p) (inner-real c rt p) n₄ n₅ o′ s′ (goes y) g₄ in
       ran-goes k e p d st o″ z
-      (follow-none k e p o″ _ s″ (searched-kept k e p (inner c p) (inner-real c rt p) z g₄) (λ g₅. goes w d m l deep g₅))))
+      (follow-none k e p o″ _ s″ (searched-kept c rt k e p (inner c p) (inner-real c rt p) z g₄) (λ g₅. goes w d m l deep g₅))))
   goes (R.runO {k = k} {e = e} {p = p} o a x) = λ d m l deep g.
       runO-goes k e p d o g a (λ gq ch. goes x d m l (deep _ ch) gq)
   goes R.runSL0 = λ d m l at g. none-goes _
@@ -370,7 +399,7 @@ module _ (c : Chart) (rt : Right c) where
       (follow-cut k e p _))
   goes (R.runE2 {k = k} {e = e} {p = p} {o = o} {n = n} {n₄ = n₄} pd x s i b) = level k e p n n₄ (λ d m l deep g.
       outer-none k e p d o pd g (goes x) s (λ g₂. during-goes k e p d abandoned i
-      (goes b (during-valid c rt p (g .1 .state) .operands) (noted (Going c p) duringPoint p i g₂)) (abandoned-goes k e p d)))
+      (goes b .0 (during-valid c rt p (g .1 .state) .operands) (noted (Going c p) duringPoint p i g₂)) (abandoned-goes k e p d)))
   goes (R.runE3 {k = k} {e = e} {p = p} {o = o} {st = st} {n = n} {n₄ = n₄} {n₅ = n₅} pd x s i b y) =
       level k e p n n₅ (λ d m l deep g. after-during k e p d o pd g (goes x) s i (goes b) (λ g₄.
       ran-goes k e p d st cut (found k e p (inner c p) (inner-real c rt p) n₄ n₅ cut not-cut (goes y) g₄) (follow-cut k e p _)))

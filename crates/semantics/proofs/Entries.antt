@@ -14,14 +14,14 @@ use Rattle.rules.specs.Block.{action}
 use Rattle.rules.specs.Fire.{onTheWay, entered, enterEach, enter}
 use Rattle.rules.proofs.Laws.{two, clash}
 use Rattle.rules.proofs.Members.{Mem}
-use Rattle.rules.proofs.Taken.{Child, Tree, Right, children-mem, tree, entry-valid}
+use Rattle.rules.proofs.Taken.{Child, Tree, Right, children-mem, tree, entry-valid, entry-silent}
 use Rattle.rules.proofs.Trees.{Deep, deep-child, deep-end}
 use Rattle.rules.proofs.Bounded.{Bounded}
 use Rattle.rules.proofs.Soundness.{Sound, activate-sound}
 use Rattle.rules.proofs.Triple.{t-change}
-use Rattle.rules.proofs.Blocks.{t-action}
 use Rattle.semantics.specs.Relation as R
 use Rattle.semantics.specs.Relation.{⇝enS, ⇝enC, ⇝enSL, _⊢_, Goes, tail, towards}
+use Rattle.semantics.proofs.Actions.{action-sound, action-kept}
 use Rattle.semantics.proofs.Towards.{Towards, on-way, off-way, each-way}
 use Rattle.semantics.proofs.Inverting.{kept, paid, noted, then-inv, bind-inv, then-goes, bind-goes, look-inv, look-goes, none-inv, none-goes, more-inv, more-goes}
 
@@ -86,14 +86,18 @@ module _ (c : Chart) (rt : Right c) where
   unfolding enter
   enter-goes d h k pd o i a x = then-goes pd (then-goes o (then-goes i (then-goes a x)))
 
-  -- k was made active, its children not yet
-  pub ready-sound : {k : State} → k < states c → {n n₁ n₂ n₃ n₄ : Now} → Goes pay n n₁ → Goes (change (λ im. activate im k)) n₁ n₂
-      → Goes (note stateEntered k) n₂ n₃ → Goes (action c (entry c k)) n₃ n₄ → Sound c (n .image) → Sound c (n₄ .image)
-  ready-sound {k} h pd o i a s =
-      kept (t-action c tr {P = Sound c} (λ im q. q) (λ im₀ im q x. x .sound) (entry c k) (entry-valid c rt k h)) a
-      (noted (Sound c) stateEntered k i
+  -- k was made active, its entry action not yet performed; and behind that
+  begun-sound : {k : State} → k < states c → {n n₁ n₂ n₃ : Now} → Goes pay n n₁ → Goes (change (λ im. activate im k)) n₁ n₂
+      → Goes (note stateEntered k) n₂ n₃ → Sound c (n .image) → Sound c (n₃ .image)
+  begun-sound {k} h pd o i s =
+      noted (Sound c) stateEntered k i
       (kept (t-change {B = Bounded c} {P = Sound c} {Q = Sound c} _ (λ im q. activate-sound c tr im k h q)) o
-      (paid (Sound c) pd s)))
+      (paid (Sound c) pd s))
+
+  pub ready-sound : {k : State} → k < states c → {n n₁ n₂ n₃ n₄ : Now} → Goes pay n n₁
+      → Goes (change (λ im. activate im k)) n₁ n₂ → Goes (note stateEntered k) n₂ n₃ → Goes (action c (entry c k)) n₃ n₄
+      → Sound c (n .image) → Sound c (n₄ .image)
+  ready-sound {k} h pd o i a s = action-kept c rt (entry c k) (entry-valid c rt k h) a (begun-sound h pd o i s)
 
   -- whoever is recorded is a child
   pub record-child : {p : State} {im : Image} → p < states c → Sound c im → 0 < recorded im p
@@ -168,10 +172,12 @@ module _ (c : Chart) (rt : Right c) where
         let b₂ = then-inv _ _ (b₁ .behind) in
         let b₃ = then-inv _ _ (b₂ .behind) in
         let b₄ = then-inv _ _ (b₃ .behind) in
+        let begun = begun-sound q (b₁ .before) (b₂ .before) (b₃ .before) s in
+        let (st, a) = action-sound c rt k (entry c k) (entry-valid c rt k q) (entry-silent c rt k q) begun (b₄ .before) in
         let ready = ready-sound q (b₁ .before) (b₂ .before) (b₃ .before) (b₄ .before) s in
         let (x, u) = composition-enters d (suc n) (omega arith) (enter-sound d (suc n) (omega arith)) k q
         (λ j ch. deep-child c tr n deep ch) ready (tail h) way (b₄ .behind) in
-        (R.enS (b₁ .before) (b₂ .before) (b₃ .before) (b₄ .before) x, u)
+        (R.enS (b₁ .before) (b₂ .before) (b₃ .before) a x, u)
 
     pub enterEach-sound : (p : State) (h : List State) → Towards c t p h → p < states c → {m m′ : Now}
         → Goes (enterEach c (enter c 9 t) t p) m m′ → Sound c (m .image) → c ⊢ ⇝enC h p m m′

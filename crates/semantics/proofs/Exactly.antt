@@ -1,6 +1,6 @@
--- The definitions are 002's rules, as 01 narrows them. For a chart that is taken and an image that is accepted: a step goes from
--- n to n′ exactly if the rules do; the rules lead to one place at most; a step is refused exactly if they lead nowhere; and the
--- whole call answers so. Assumes nothing.
+-- The definitions go exactly where the relation (`Relation.antt`) leads. For a chart that is taken and an image that is accepted:
+-- a step goes from n to n′ exactly if the relation does; it leads to one place at most; a step is refused exactly if it leads
+-- nowhere; and the whole call answers so. Assumes nothing.
 use mathlib.Core.Path.{_≡_, refl, sym, _∙_}
 use mathlib.Core.Logic.{_↔_, _⊎_, inl, inr}
 use mathlib.Core.Bool.{true, false}
@@ -24,7 +24,7 @@ use Rattle.semantics.proofs.Inverting.{stuck, one-place}
 use Rattle.semantics.proofs.Sound.{send-sound, run-sound, step-sound}
 use Rattle.semantics.proofs.Complete.{run-complete, step-complete}
 
--- the rules lead nowhere
+-- the relation leads nowhere
 abbrev pub Nowhere : Chart → ℕ → Now → Type 0
 Nowhere c e n = (n′ : Now) → c ⊢ ⇝Ch e n n′ → ⊥
 
@@ -46,7 +46,7 @@ module _ (c : Chart) (taken : chartRefusal c ≡ 0) (e : ℕ) (n : Now) (fits : 
   pub refused-leads-nowhere : ((r : Refusal) × (step c e n ≡ refused r)) ↔ Nowhere c e n
   refused-leads-nowhere = (λ (r, q). refused-nowhere r q, λ none. refused-or-not none (step c e n) refl)
 
--- A run of any active state p, with k sends more to open; 002's theorem deterministic_state.
+-- A run of any active state p of a started lift, with k sends more to open; and 002's theorem deterministic_state, of these.
 module _ (c : Chart) (taken : chartRefusal c ≡ 0) (k e : ℕ) (p : State) (state : p < states c) (n : Now)
     (fits : accepted (n .image) c ≡ true) (started : notStarted (n .image) ≡ false) (active : isActive (n .image) p ≡ true) where
   there : Going c p (n .image)
@@ -69,11 +69,11 @@ module _ (c : Chart) (board : Board) (trace : Bytes) (k e allowance : ℕ) (z : 
   abbrev pub call : Answer
   call = stepCall c board trace k e allowance
 
-  -- it answers with what the rules lead to
+  -- it answers with what the relation leads to
   abbrev pub Led : Type 0
   Led = (n′ : Now) × (c ⊢ ⇝Ch e before n′) × (call ≡ stepAnswer board trace k allowance (went tt n′))
 
-  -- they lead nowhere, and it is refused with one of 16 to 20
+  -- that leads nowhere, and the call is refused with one of 16 to 20
   abbrev pub Stopped : Type 0
   Stopped = Nowhere c e before × (r : Refusal) × Executing r × (call ≡ numberOnly r board trace)
 

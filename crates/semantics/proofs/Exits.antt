@@ -6,11 +6,11 @@ use mathlib.Core.Path.{_≡_, refl, sym, subst, _∙_}
 use mathlib.Core.Logic.{inl, inr}
 use mathlib.Core.Bool.{true, false}
 use mathlib.Core.List.{List, [], _∷_, List·Memᴰ·head, List·Memᴰ·tail, List·Memᴰ·not-nil, List·Memᴰ·cases-cons}
-use Prim.Native.Nat.{ℕ, zero, suc, _+_, _-_, _/_, _≤_, _<_}
+use Prim.Native.Nat.{ℕ, zero, suc, _+_, _/_, _≤_, _<_}
 use native.Mathlib.Decide.{ℕ-discrete}
 use native.Mathlib.Omega.{arith}
 use lib.Seq.{getD-set-other, set-comm}
-use Rattle.rules.specs.Lists.{if_then_else_, downFrom}
+use Rattle.rules.specs.Lists.{if_then_else_}
 use Rattle.rules.specs.Chart.{State, Chart, states, parent, exit, isOneOf, keepsHistory, children, childrenDown}
 use Rattle.rules.specs.Image.{Image, isActive, deactivate, recordChild}
 use Rattle.rules.specs.Doing.{Now, Done, done, give, _>>_, change, pay, Act, stateLeft, note, each, whenActive}
@@ -18,14 +18,16 @@ use Rattle.rules.specs.Block.{action}
 use Rattle.rules.specs.Fire.{leaveEach, noteLeft, leave}
 use Rattle.rules.proofs.Laws.{two, clash, not-yes}
 use Rattle.rules.proofs.Members.{Mem, isIn-mem, mem-isIn}
-use Rattle.rules.proofs.Distinct.{Distinct, downFrom-distinct, keep-distinct}
-use Rattle.rules.proofs.Taken.{Child, Tree, Right, children-mem, mem-children, childrenDown-mem, mem-childrenDown, tree}
+use Rattle.rules.proofs.Distinct.{Distinct}
+use Rattle.rules.proofs.Weights.{weigh, down-distinct}
+use Rattle.rules.proofs.Taken.{Child, Tree, Right, children-mem, mem-children, childrenDown-mem, mem-childrenDown, tree, exit-valid, exit-silent}
 use Rattle.rules.proofs.Trees.{Deep, child-more, sibling, deep-child, deep-end, low}
 use Rattle.rules.proofs.Soundness.{Sound}
 use Rattle.rules.proofs.Shape.{Fine}
-use Rattle.rules.proofs.Leaving.{Left, t-leave}
+use Rattle.rules.proofs.Leaving.{Left, leavingCost, t-leaveEach, t-leave}
 use Rattle.semantics.specs.Relation as R
-use Rattle.semantics.specs.Relation.{⇝exS, ⇝exC, ⇝exSL, _⊢_, Goes, ActiveChild}
+use Rattle.semantics.specs.Relation.{⇝exS, ⇝exC, ⇝exSL, _⊢_, Goes, ActiveChild, records}
+use Rattle.semantics.proofs.Actions.{action-sound}
 use Rattle.semantics.proofs.Inverting.{kept, paid, then-inv, then-goes, done-inv, done-goes, choose-inv, no-goes, active-inv, idle-inv, active-goes, idle-goes, none-inv, none-goes, more-inv, more-goes}
 
 -- a record and an active bit are different bytes
@@ -56,6 +58,15 @@ module _ (c : Chart) where
         | inl e ↦ rw e (last _ _ stateLeft s (n .image) (n .units) (n .room) (n .trace) (swapped (n .image) (parent c s) s h))
         | inr e ↦ rw e (last (λ im. im) _ stateLeft s (n .image) (n .units) (n .room) (n .trace) refl)
       ]
+
+  -- what a history parent records, from the child and from the parent
+  to-records : {p q : State} {n n′ : Now} → Child c p q → Goes (noteLeft c q) n n′ → Goes (records c p q) n n′
+  unfolding noteLeft
+  to-records {q = q} {n} {n′} ch w = subst (λ (x : State). Goes (records c x q) n n′) (ch .of) w
+
+  pub from-records : {p q : State} {n n′ : Now} → Child c p q → Goes (records c p q) n n′ → Goes (noteLeft c q) n n′
+  unfolding noteLeft
+  from-records {q = q} {n} {n′} ch w = subst (λ (x : State). Goes (records c x q) n n′) (sym (ch .of)) w
 
   -- leaving, in 002's order
   leave-goes : (d : ℕ) (s : State) → s < 64 → {n n₁ n₂ n₃ n₄ n₅ n₆ : Now} → Goes pay n n₁
@@ -127,17 +138,13 @@ module _ (c : Chart) (rt : Right c) where
         fine = λ x h l. le .moved .fine x h (λ e. omega (arith, ck .of)) (r .fine x h l);
       }
 
-  down-distinct : (p : State) → Distinct (childrenDown c p)
-  unfolding childrenDown
-  down-distinct p = keep-distinct _ (downFrom (states c - 1)) (downFrom-distinct (states c - 1))
-
   remaining-all : {p : State} {im : Image} → p < states c → isOneOf c p ≡ false → Standing c p im
       → Remaining c p (childrenDown c p) im
   remaining-all {p} h o s =
       record {
         sound = s .sound;
         kids = λ j m. childrenDown-mem c p m;
-        distinct = down-distinct p;
+        distinct = down-distinct c p;
         on = λ j m. s .fine p h (omega arith) .all (s .on) o j (childrenDown-mem c p m);
         fine = λ x l g. s .fine x l (omega arith);
       }
@@ -158,6 +165,13 @@ module _ (c : Chart) (rt : Right c) where
     pub left-after : {k : State} {m m′ : Now} → 0 < k → k < states c → Deep c n k → Sound c (m .image) → Goes (leave c d k) m m′
         → Left c k (m .image) (m′ .image)
     left-after {k} {m} z h deep s w = kept (t-leave c rt d n l k z h deep (m .image) s) w refl
+
+    -- the image is sound where the children of p were left
+    pub emptied-sound : (p : State) → ((k : State) → Child c p k → Deep c n k) → {m m′ : Now}
+        → Goes (leaveEach c (leave c d) p) m m′ → Sound c (m .image) → Sound c (m′ .image)
+    emptied-sound p deep {m} w s =
+        kept (t-leaveEach c rt p (m .image) s (weigh c (leavingCost c) d) (leave c d)
+        (λ k ch. t-leave c rt d n l k (ch .above) (ch .state) (deep k ch))) w refl .moved .sound
 
     -- of a one-of state's children, q alone is left
     module _ (p q : State) (deep : Deep c n q) where
@@ -261,7 +275,8 @@ module _ (c : Chart) (rt : Right c) where
                 let v = sole-inv p q (deep q ch) (childrenDown c p) (λ j k. childrenDown-mem c p k) (mem-childrenDown c p q ch)
                 (s .sound) u w in
                 let (m₁, x, r) = exits q ch m m′ (standing-child ch s (u .active)) v in
-                R.exO o (record { child = mem-isIn q (children c p) (mem-children c p q ch); active = u .active }) x r
+                let among = mem-isIn q (children c p) (mem-children c p q ch) in
+                R.exO o (record { child = among; active = u .active }) x (to-records c ch r)
             | inr o ↦ R.exA o (list-exits o (childrenDown c p) (remaining-all h o s) w)
           ]
 
@@ -277,10 +292,12 @@ module _ (c : Chart) (rt : Right c) where
       let b₄ = then-inv _ (noteLeft c k) (record { is = sym (record-last c k (low c tr h) (b₃ .mid)) ∙ b₃ .behind .is }) in
       let b₅ = then-inv _ _ (b₄ .before) in
       let deeper : (j : State) → Child c k j → Deep c (suc n) j = λ j ch. deep-child c tr n deep ch in
+      let s₁ = paid (Standing c k) (b₁ .before) s in
       let x = composition-exits d (suc n) (omega arith) k h deeper
-      (λ j ch. leave-sound d (suc n) (omega arith) j (ch .above) (ch .state) (deeper j ch))
-      (paid (Standing c k) (b₁ .before) s) (b₂ .before) in
-      (b₄ .mid, R.exS1 (b₁ .before) x (b₃ .before) (b₅ .before) (b₅ .behind), b₄ .behind)
+      (λ j ch. leave-sound d (suc n) (omega arith) j (ch .above) (ch .state) (deeper j ch)) s₁ (b₂ .before) in
+      let (st, a) = action-sound c rt k (exit c k) (exit-valid c rt k h) (exit-silent c rt k h)
+      (emptied-sound d (suc n) (omega arith) k deeper (b₂ .before) (s₁ .sound)) (b₃ .before) in
+      (b₄ .mid, R.exS1 (b₁ .before) x a (b₅ .before) (b₅ .behind), b₄ .behind)
 
   pub leaveEach-sound : (p : State) → p < states c → {m m′ : Now} → Standing c p (m .image)
       → Goes (leaveEach c (leave c 9) p) m m′

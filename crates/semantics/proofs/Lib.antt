@@ -1,8 +1,9 @@
 pub mod Inverting
+pub mod Actions
 pub mod Exits
 pub mod Towards
 pub mod Entries
-pub mod Acts
+pub mod Sends
 pub mod Searching
 pub mod Found
 pub mod Sound

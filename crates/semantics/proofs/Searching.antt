@@ -2,20 +2,20 @@
 -- the way back: what a list comes to lies `along` the path before it. Here from the definitions to the rules. Assumes nothing.
 use mathlib.Core.Path.{_≡_, refl, sym, ap, _∙_}
 use mathlib.Core.Logic.{inl, inr}
-use mathlib.Core.Bool.{Bool, true, false}
+use mathlib.Core.Bool.{Bool, true, false, _||_, true≢false}
 use mathlib.Core.List.{List, [], _∷_, _++_, append-assoc, List·Memᴰ·head, List·Memᴰ·tail}
 use Prim.Native.Nat.{ℕ, zero, suc, _+_, _<_}
 use native.Mathlib.Omega.{arith}
 use lib.Dec.{eqb}
-use borrow.Author.Tests.{eqb-true}
+use borrow.Author.Tests.{eqb-true, eqb-false, eq-eqb, ne-eqb}
 use lib.ListN.{length, length-append}
 use Rattle.rules.specs.Lists.{if_then_else_}
-use Rattle.rules.specs.Chart.{State, Segment, Chart, states, segments, conditionAction, destination, endsOnState, own, code}
+use Rattle.rules.specs.Chart.{State, Segment, Chart, states, segments, event, conditionAction, destination, endsOnState, own, code}
 use Rattle.rules.specs.Doing.{Now, Doing, give, pay, segmentPassed, note}
 use Rattle.rules.specs.Block.{Ran, ran, abandoned, unlessAbandoned}
 use Rattle.rules.specs.Search.{Found, reached, nowhere, ended, cut, orNext, passes, tries, passed, search}
 use Rattle.rules.specs.Run.{send}
-use Rattle.rules.proofs.Laws.{clash}
+use Rattle.rules.proofs.Laws.{clash, or-cases, or-left, or-right, or-no}
 use Rattle.rules.proofs.Members.{Mem}
 use Rattle.rules.proofs.Taken.{Right, conditionAction-valid}
 use Rattle.rules.proofs.Blocks.{How}
@@ -23,9 +23,9 @@ use Rattle.rules.proofs.Shape.{Good}
 use Rattle.rules.proofs.Firing.{Going, Path}
 use Rattle.rules.proofs.Running.{Way, Got, further, no-way, t-send, t-passes, t-owns, t-tries, t-passed}
 use Rattle.semantics.specs.Relation as R
-use Rattle.semantics.specs.Relation.{⇝a, ⇝t, ⇝tl, _⊢_, Gives, Goes}
-use Rattle.semantics.proofs.Inverting.{kept, paid, noted, then-inv, bind-inv, give-inv, refuse-inv, choose-inv}
-use Rattle.semantics.proofs.Acts.{SendsSound, Performs, perform-sound}
+use Rattle.semantics.specs.Relation.{⇝a, ⇝t, ⇝tl, _⊢_, Gives, Goes, Enb}
+use Rattle.semantics.proofs.Inverting.{kept, paid, noted, then-inv, bind-inv, give-inv, give-goes, refuse-inv, choose-inv, yes-goes, no-goes}
+use Rattle.semantics.proofs.Sends.{SendsSound, Performs, perform-sound}
 
 -- what is found after a path, told from where that path began
 abbrev pub along : List Segment → Found → Found
@@ -52,6 +52,29 @@ one-longer path t e = simp length-append (omega arith)
 -- o is found, and P says so of it where it is told from the end of the path
 abbrev Along : List Segment → (Found → Type 0) → Found → Type 0
 Along path P o = (o′ : Found) × (o ≡ along path o′) × P o′
+
+-- a segment passes if it is enabled
+nor : (a b : Bool) → (a || b) ≡ false → (a ≡ false) × (b ≡ false)
+nor true b e = absurd (true≢false e)
+nor false b e = (refl, e)
+
+passes-inv : (c : Chart) (e : ℕ) (t : Segment) {n n′ : Now} {b : Bool} → Gives (passes c e t) n b n′ → Enb c e t n n′ b
+unfolding passes
+passes-inv c e t w =
+    elim (choose-inv _ _ _ w) [
+      | inl (q, v) ↦ elim (or-cases (eqb (event c t) 0) _ q)
+          [ inl i ↦ R.tried (inr (eqb-true _ _ i)) v | inr i ↦ R.tried (inl (eqb-true _ _ i)) v ]
+      | inr (q, v) ↦
+          let (i, j) = nor (eqb (event c t) 0) _ q in
+          let (x, y) = give-inv v in
+          rw (← x, y) (R.other (eqb-false _ _ j) (eqb-false _ _ i))
+    ]
+
+pub passes-goes : (c : Chart) (e : ℕ) (t : Segment) {n n′ : Now} {b : Bool} → Enb c e t n n′ b → Gives (passes c e t) n b n′
+unfolding passes
+passes-goes c e t (R.tried (inl i) w) = yes-goes _ _ _ (or-right (eqb (event c t) 0) _ (eq-eqb _ _ i)) w
+passes-goes c e t (R.tried (inr i) w) = yes-goes _ _ _ (or-left _ (eqb (event c t) e) (eq-eqb _ _ i)) w
+passes-goes c e t (R.other i j) = no-goes _ _ _ (or-no (eqb (event c t) 0) _ (ne-eqb _ _ j) (ne-eqb _ _ i)) give-goes
 
 -- a list is tried behind a path, m segments more at most; a path to each of a list
 abbrev pub Tried : Chart → ℕ → ℕ → State → ℕ → List Segment → List Segment → Doing Found
@@ -100,8 +123,8 @@ module _ (c : Chart) (rt : Right c) (k e : ℕ) (p : State) (h : p < states c) w
 
     next-fail : (l : ℕ) (ts : List Segment) (t : Segment) {n n₁ n₂ n₃ : Now} (o : Found) → Goes pay n n₁
         → Gives (passes c e t) n₁ false n₂ → Gone c k e p l ts n₂ n₃ o → c ⊢ ⇝tl k e p l (t ∷ ts) n n₃ o
-    next-fail l [] t o pd x (a, b) = rw (a, ← b) (R.Fail pd x)
-    next-fail l (t′ ∷ ts) t o pd x z = R.Ind pd x z
+    next-fail l [] t o pd x (a, b) = rw (a, ← b) (R.Fail pd (passes-inv c e t x))
+    next-fail l (t′ ∷ ts) t o pd x z = R.Ind pd (passes-inv c e t x) z
 
     module _ (l : ℕ) (path ts : List Segment) (t : Segment) (m : Doing Found) {n n₁ : Now} (pd : Goes pay n n₁)
         {n₃ n₄ : Now} {o : Found} (rest : Going c p (n₃ .image) → Gives m n₃ o n₄ → Along path (Gone c k e p l ts n₃ n₄) o) where
@@ -184,15 +207,16 @@ module _ (c : Chart) (rt : Right c) (k e : ℕ) (p : State) (h : p < states c) w
         → Along (path ++ (t ∷ [])) (Gone c k e p (l + 1) (own c (destination c t)) n₃ n₄) o)
         → Along path (Onward l t n n₄) o
     unfolding unlessAbandoned
-    ran-or-not l path t abandoned m x few i a w g f = let (y, z) = give-inv w in (cut, sym y, rw (← z) (gone (R.TrF x few i a)))
+    ran-or-not l path t abandoned m x few i a w g f =
+        let (y, z) = give-inv w in (cut, sym y, rw (← z) (gone (R.TrF (passes-inv c e t x) few i a)))
     ran-or-not l path t (ran st) m x few i a w g f =
         elim (choose-inv _ _ _ w) [
           | inl (s, v) ↦
               let (y, z) = give-inv v in
-              (reached (destination c t) (t ∷ []), sym y, rw (← z) (there (R.TrT x few i a) s))
+              (reached (destination c t) (t ∷ []), sym y, rw (← z) (there (R.TrT (passes-inv c e t x) few i a) s))
           | inr (s, v) ↦
               let (o′, y, z) = junction (l + 1) (path ++ (t ∷ [])) (own c (destination c t)) m v (f s g) in
-              (along (t ∷ []) o′, y ∙ along-longer path t o′, on o′ (R.TrT x few i a) s z)
+              (along (t ∷ []) o′, y ∙ along-longer path t o′, on o′ (R.TrT (passes-inv c e t x) few i a) s z)
         ]
 
     passed-sound : (m l : ℕ) (path : List Segment) → length path ≡ l → m + l ≡ 128 → (t : Segment) → Way c path t
@@ -205,11 +229,12 @@ module _ (c : Chart) (rt : Right c) (k e : ℕ) (p : State) (h : p < states c) w
         let b₂ = bind-inv _ _ (b₁ .behind) in
         let g₂ = noted (Going c p) segmentPassed t (b₁ .before) (kept (t-passes c rt p e t (way .real)) x g) in
         let right = conditionAction-valid c rt t (way .real) .operands in
-        let a = perform-sound c rt k p sound [] (code c (conditionAction c t)) _ _ _ right g₂ (b₂ .before) in
+        let code = code c (conditionAction c t) in
+        let a = perform-sound c rt k p sound [] code (b₁ .mid) (b₂ .mid) (b₂ .gave) right g₂ (b₂ .before) in
         ran-or-not l path t (b₂ .gave) _ x (omega arith) (b₁ .before) a (b₂ .behind) (acted-kept t (way .real) (b₂ .before) g₂)
         (λ s g₃ v. tries-sound m (l + 1) (path ++ (t ∷ []))
         (passed-sound m (l + 1) (path ++ (t ∷ [])) (one-longer path t z) (omega arith))
-        (own c (destination c t)) (λ u i. further c rt u way s i) _ n′ o g₃ v)
+        (own c (destination c t)) (λ u i. further c rt u way s i) (b₂ .mid) n′ o g₃ v)
 
     -- what a state's list comes to: a state, none, or early return
     pub search-sound : (ts : List Segment) → Path c ts → (n n′ : Now) (o : Found) → Going c p (n .image)

@@ -17,24 +17,23 @@ use Rattle.rules.specs.Search.{Found, reached, nowhere, ended, cut, search}
 use Rattle.rules.specs.Fire.{levels, leaveEach, leave, arena, transit, fire}
 use Rattle.rules.specs.Run.{follow, runActive, runChildren, runInside, runDuring, run, send, start, step}
 use Rattle.rules.proofs.Laws.{two, clash}
-use Rattle.rules.proofs.Members.{Mem, mem-isIn}
+use Rattle.rules.proofs.Members.{Mem, mem-isIn, first-only}
 use Rattle.rules.proofs.Taken.{Child, Tree, Right, tree, children-mem, mem-children, during-valid}
 use Rattle.rules.proofs.Trees.{Deep, deep-child, deep-end}
-use Rattle.rules.proofs.Weights.{weigh}
 use Rattle.rules.proofs.Soundness.{Sound}
 use Rattle.rules.proofs.Blocks.{How}
 use Rattle.rules.proofs.Shape.{Good}
-use Rattle.rules.proofs.Leaving.{leavingCost, t-leaveEach, t-leave}
-use Rattle.rules.proofs.Firing.{Going, Path, Up, up-root, up-arena, t-transits}
+use Rattle.rules.proofs.Firing.{Going, Path, Up, up-root, up-arena}
 use Rattle.rules.proofs.Running.{Reach, Got, starts-path, going, t-send, t-owns, t-search, t-run}
 use Rattle.rules.proofs.Accepting.{sound, started-good}
 use Rattle.semantics.specs.Relation as R
-use Rattle.semantics.specs.Relation.{⇝a, ⇝tl, ⇝exC, ⇝enC, ⇝runS, ⇝runC, ⇝runSL, ⇝Ch, _⊢_, Gives, Goes, Descent, NoState, failed, terminal}
+use Rattle.semantics.specs.Relation.{⇝a, ⇝at, ⇝tl, ⇝exC, ⇝enC, ⇝runS, ⇝runC, ⇝runSL, ⇝Ch, _⊢_, Gives, Goes, Descent, NoState, failed, terminal}
 use Rattle.semantics.proofs.Inverting.{kept, paid, noted, then-inv, bind-inv, give-inv, done-inv, look-inv, refuse-inv, choose-inv, active-inv, idle-inv, none-inv, more-inv}
-use Rattle.semantics.proofs.Exits.{Standing, leaveEach-sound}
-use Rattle.semantics.proofs.Towards.{first-only, descent, arena-below}
+use Rattle.semantics.proofs.Actions.{transits-sound, transits-kept}
+use Rattle.semantics.proofs.Exits.{Standing, emptied-sound, leaveEach-sound}
+use Rattle.semantics.proofs.Towards.{descent, arena-below}
 use Rattle.semantics.proofs.Entries.{enter-sound, enterEach-sound}
-use Rattle.semantics.proofs.Acts.{Sending, sent, unsent, SendsSound, perform-sound}
+use Rattle.semantics.proofs.Sends.{Sending, sent, unsent, SendsSound, perform-sound}
 use Rattle.semantics.proofs.Searching.{Gone, search-sound}
 
 module _ (c : Chart) (rt : Right c) where
@@ -59,6 +58,11 @@ module _ (c : Chart) (rt : Right c) where
   unfolding inner
   inner-real p = starts-path c rt 1 p
 
+  -- what holds behind a state's list
+  pub searched-kept : (k e : ℕ) (p : State) (ts : List Segment) → Path c ts → {n n′ : Now} {o : Found}
+      → Gives (search c (send c k) e p ts) n o n′ → Going c p (n .image) → Got c p o (n′ .image)
+  searched-kept k e p ts real w g = kept (t-search c rt (send c k) (t-send c rt k) e p (g .1 .state) ts real) w g
+
   -- the arena stands
   pub standing : {s : State} {im : Image} → Good c im → Up c im s → Standing c s im
   standing g u = record { sound = g .sound; on = u .on; fine = λ x h l. g .fine x h }
@@ -66,10 +70,7 @@ module _ (c : Chart) (rt : Right c) where
   -- between the arena's exit and its entry the image is sound
   pub transit-sound : (a : State) (path : List Segment) → Path c path → {n n₁ n₂ : Now} → Sound c (n .image)
       → Goes (leaveEach c (leave c levels) a) n n₁ → Goes (each (transit c) path) n₁ n₂ → Sound c (n₂ .image)
-  transit-sound a path real {n} s x y =
-      let emptied = kept (t-leaveEach c rt a (n .image) s (weigh c (leavingCost c) 9) (leave c 9)
-      (λ k ch. t-leave c rt 9 0 refl k (ch .above) (ch .state) tt)) x refl in
-      kept (t-transits c rt a (n .image) path real) y emptied .moved .sound
+  transit-sound a path real s x y = transits-kept c rt path real y (emptied-sound c rt 9 0 refl a (λ k ch. tt) x s)
 
   -- a path is fired by the last premises of runS and runS2
   record Fired (p s : State) (path : List Segment) (n n′ : Now) : Type 0 where
@@ -77,7 +78,7 @@ module _ (c : Chart) (rt : Right c) where
     between : Now
     way : List State
     exits : c ⊢ ⇝exC (arena c p s path) n left
-    acts : Goes (each (transit c) path) left between
+    acts : c ⊢ ⇝at p path left between
     down : Descent c (arena c p s path) way s
     enters : c ⊢ ⇝enC way (arena c p s path) between n′
 
@@ -94,7 +95,8 @@ module _ (c : Chart) (rt : Right c) where
         between = b₂ .mid;
         way = h;
         exits = leaveEach-sound c rt _ (a .state) (standing g a) (b₁ .before);
-        acts = b₂ .before;
+        acts = transits-sound c rt p path (r .route .inside)
+            (emptied-sound c rt 9 0 refl _ (λ k ch. tt) (b₁ .before) (g .sound)) (b₂ .before);
         down = d;
         enters = enterEach-sound c rt s (r .state) _ h (inl d) (a .state) (b₂ .behind)
             (transit-sound _ path (r .route .inside) (g .sound) (b₁ .before) (b₂ .before));
@@ -119,11 +121,7 @@ came c k e p (t ∷ ts) n n′ ended x = (ended, x, terminal)
 came c k e p (t ∷ ts) n n′ cut x = x
 
 module _ (c : Chart) (rt : Right c) (k : ℕ) (sends : SendsSound c k) (e : ℕ) where
-  -- a state's list of segments, what holds behind it, and what it comes to
-  searched-kept : (p : State) (ts : List Segment) → Path c ts → {n n′ : Now} {o : Found} → Going c p (n .image)
-      → Gives (search c (send c k) e p ts) n o n′ → Got c p o (n′ .image)
-  searched-kept p ts real g w = kept (t-search c rt (send c k) (t-send c rt k) e p (g .1 .state) ts real) w g
-
+  -- what a state's list of segments comes to
   searched : (p : State) (ts : List Segment) → Path c ts → {n n′ : Now} {o : Found} → Going c p (n .image)
       → Gives (search c (send c k) e p ts) n o n′ → Came c k e p ts n n′ o
   searched p ts real {n} {n′} {o} g w =
@@ -191,7 +189,7 @@ module _ (c : Chart) (rt : Right c) (k : ℕ) (sends : SendsSound c k) (e : ℕ)
       acted (ran st) x none i a g w =
           let b = bind-inv _ _ w in
           inside (b .gave) x none i a (searched p (inner c p) (inner-real c rt p) g (b .before))
-          (searched-kept p (inner c p) (inner-real c rt p) g (b .before)) (b .behind)
+          (searched-kept c rt k e p (inner c p) (inner-real c rt p) (b .before) g) (b .behind)
       acted abandoned x none i a g w = rw (← give-inv w .1) (R.runE2 pd x none i a)
 
       -- no outer segment reached a state
@@ -227,7 +225,7 @@ module _ (c : Chart) (rt : Right c) (k : ℕ) (sends : SendsSound c k) (e : ℕ)
       let deeper : (s : State) → Child c p s → Deep c (suc n) s = λ s ch. deep-child c (tree c rt) n deep ch in
       followed d (suc n) (run-sound d (suc n) (omega arith)) p deeper (b₁ .before) (b₂ .gave)
       (searched p (outer c p) (outer-real c rt p) g₁ (b₂ .before))
-      (searched-kept p (outer c p) (outer-real c rt p) g₁ (b₂ .before)) (b₂ .behind)
+      (searched-kept c rt k e p (outer c p) (outer-real c rt p) (b₂ .before) g₁) (b₂ .behind)
 
 module _ (c : Chart) (rt : Right c) where
   pub send-sound : (k e : ℕ) (b : State) (n n′ : Now) → b < states c → Good c (n .image) → Goes (send c k e b) n n′

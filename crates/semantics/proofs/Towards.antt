@@ -3,20 +3,20 @@
 -- nothing.
 use mathlib.Core.Path.{_≡_, refl, sym}
 use mathlib.Core.Logic.{_⊎_, inl, inr}
-use mathlib.Core.Bool.{Bool, true, false, _&&_}
-use mathlib.Core.List.{List, [], _∷_, _++_, List·Memᴰ·head, List·Memᴰ·tail, List·Memᴰ·not-nil, List·Memᴰ·cases-cons, List·Memᴰ·eq-of-singleton}
+use mathlib.Core.Bool.{false, _&&_}
+use mathlib.Core.List.{List, [], _∷_, _++_}
 use Prim.Native.Nat.{ℕ, zero, suc, _<_}
 use native.Mathlib.Decide.{ℕ-discrete}
 use native.Mathlib.Omega.{arith}
 use lib.Dec.{eqb}
-use borrow.Author.Tests.{eq-eqb, ne-eqb, eqb-true, eqb-false}
-use Rattle.rules.specs.Lists.{if_then_else_, every, first}
+use borrow.Author.Tests.{eq-eqb, ne-eqb, eqb-true}
+use Rattle.rules.specs.Lists.{if_then_else_, every}
 use Rattle.rules.specs.Chart.{State, Segment, Chart, states, deepest, parent, children, line, over}
 use Rattle.rules.specs.Fire.{onTheWay, junctionParents, common, arena}
 use Rattle.rules.proofs.Laws.{two, clash, not-yes, and-left}
-use Rattle.rules.proofs.Members.{Mem, isIn-mem, mem-isIn, first-mem}
+use Rattle.rules.proofs.Members.{isIn-mem, mem-isIn, first-mem, first-only, first-none}
 use Rattle.rules.proofs.Taken.{Child, Tree, Right, children-mem, mem-children, tree}
-use Rattle.rules.proofs.Trees.{Below, here, under, below-le, below-trans, child-below, child-more, child-of-parent, sibling}
+use Rattle.rules.proofs.Trees.{Below, here, under, below-le, below-trans, child-below, child-more, child-of-parent, sibling, over-below, below-over, comparable}
 use Rattle.semantics.specs.Relation as R
 use Rattle.semantics.specs.Relation.{Descent, tail, towards}
 
@@ -24,76 +24,9 @@ use Rattle.semantics.specs.Relation.{Descent, tail, towards}
 abbrev pub Towards : Chart → State → State → List State → Type 0
 Towards c s p h = Descent c p h s ⊎ ((h ≡ []) × (over c p s ≡ false))
 
--- of one that alone passes, it is the first; of none, 0
-pub first-only : (f : State → Bool) (xs : List State) (q : State) → Mem q xs → f q ≡ true
-    → ((x : State) → Mem x xs → f x ≡ true → x ≡ q)
-    → first f xs ≡ q
-unfolding first if_then_else_
-first-only f [] q m y u = absurd (List·Memᴰ·not-nil m)
-first-only f (x ∷ xs) q m y u =
-    elim (two (f x)) [
-      | inl e ↦ rw e (u x (List·Memᴰ·head refl) e)
-      | inr e ↦ rw e (first-only f xs q (elim (List·Memᴰ·cases-cons m) [ inl z ↦ clash y (rw z e) | inr i ↦ i ]) y
-          (λ z i. u z (List·Memᴰ·tail i)))
-    ]
-
-first-none : (f : State → Bool) (xs : List State) → ((x : State) → Mem x xs → f x ≡ false) → first f xs ≡ 0
-unfolding first if_then_else_
-first-none f [] u = refl
-first-none f (x ∷ xs) u = rw (u x (List·Memᴰ·head refl)) (first-none f xs (λ y i. u y (List·Memᴰ·tail i)))
-
-else-mem : {x : State} {xs : List State} (b : Bool) → Mem x (if b then [] else xs) → (b ≡ false) × Mem x xs
-unfolding if_then_else_
-else-mem true m = absurd (List·Memᴰ·not-nil m)
-else-mem false m = (refl, m)
-
-mem-else : {x : State} {xs : List State} (b : Bool) → b ≡ false → Mem x xs → Mem x (if b then [] else xs)
-unfolding if_then_else_
-mem-else b e m = rw e m
-
 module _ (c : Chart) (rt : Right c) where
   tr : Tree c
   tr = tree c rt
-
-  -- to be over a state is to have it below, or to be it
-  line-below : (n : ℕ) (x : State) → x < states c → {k : State} → Mem k (line c n x) → Below c k x
-  unfolding line
-  line-below zero x h m = rw (List·Memᴰ·eq-of-singleton m) here
-  line-below (suc n) x h {k} m =
-      elim (List·Memᴰ·cases-cons m) [
-        | inl e ↦ rw e here
-        | inr m ↦
-            let (z, i) = else-mem (eqb x 0) m in
-            let z′ : 0 < x = omega (arith, eqb-false x 0 z) in
-            let up = tr .up x h z′ in
-            under z′ h (line-below n (parent c x) (omega arith) i)
-      ]
-
-  over-below : {k x : State} → x < states c → over c k x ≡ true → Below c k x
-  unfolding over
-  over-below {k} {x} h e = line-below deepest x h (isIn-mem k (line c deepest x) e)
-
-  -- a line that comes to the root passes whatever is above
-  below-line : (n : ℕ) {k x : State} → Below c k x → Mem 0 (line c n x) → Mem k (line c n x)
-  unfolding line
-  below-line zero here r = List·Memᴰ·head refl
-  below-line (suc n) here r = List·Memᴰ·head refl
-  below-line zero (under {x = x} z h b) r = let e = List·Memᴰ·eq-of-singleton r in absurd (omega arith)
-  below-line (suc n) (under {x = x} z h b) r =
-      elim (List·Memᴰ·cases-cons r) [
-        | inl e ↦ absurd (omega arith)
-        | inr i ↦ let (q, j) = else-mem (eqb x 0) i in List·Memᴰ·tail (mem-else (eqb x 0) q (below-line n b j))
-      ]
-
-  below-over : {k x : State} → x < states c → Below c k x → over c k x ≡ true
-  unfolding over
-  below-over {k} {x} h b = mem-isIn k (line c deepest x) (below-line deepest b (isIn-mem 0 (line c deepest x) (tr .depth x h)))
-
-  -- of two states above a third one is above the other
-  comparable : {a b x : State} → Below c a x → Below c b x → Below c a b ⊎ Below c b a
-  comparable here q = inr q
-  comparable (under z h p) here = inl (under z h p)
-  comparable (under z h p) (under z′ h′ q) = comparable p q
 
   -- the path from a state down to one below it
   further : {a s k : State} {h : List State} → Descent c a h s → Child c s k → Descent c a (h ++ (k ∷ [])) k
@@ -112,13 +45,13 @@ module _ (c : Chart) (rt : Right c) where
   module _ (s : State) (real : s < states c) where
     -- no child of p is above s, but the one on the path
     not-over : {p k : State} → Child c p k → (Below c k s → ⊥) → over c k s ≡ false
-    not-over {p} {k} ch no-one = not-yes (over c k s) (λ e. no-one (over-below real e))
+    not-over {p} {k} ch no-one = not-yes (over c k s) (λ e. no-one (over-below c tr real e))
 
     lone : {p q k : State} → Child c p q → Child c p k → Below c q s → Below c k s → k ≡ q
     lone {p} {q} {k} cq ck bq bk =
         elim (ℕ-discrete k q) [
           | yes e ↦ e
-          | no d ↦ elim (comparable bq bk)
+          | no d ↦ elim (comparable c tr bq bk)
               [ inl b ↦ absurd (sibling c tr cq ck d b) | inr b ↦ absurd (sibling c tr ck cq (λ e. d (sym e)) b) ]
         ]
 
@@ -129,8 +62,8 @@ module _ (c : Chart) (rt : Right c) where
     on-way {p} {q} (inl (R.down i d)) =
         let ch = children-mem c p (isIn-mem q (children c p) i) in
         let bq = descent-below d in (
-          first-only _ (children c p) q (mem-children c p q ch) (below-over real bq)
-              (λ x m e. lone ch (children-mem c p m) bq (over-below real e)),
+          first-only _ (children c p) q (mem-children c p q ch) (below-over c tr real bq)
+              (λ x m e. lone ch (children-mem c p m) bq (over-below c tr real e)),
           ch,
           bq,
           inl d,
@@ -140,7 +73,7 @@ module _ (c : Chart) (rt : Right c) where
     -- it has come to its end, or p is not on it: no child is
     none-over : {p k : State} → Towards c s p [] → Child c p k → over c k s ≡ false
     none-over (inl R.here) ch = not-over ch (λ b. omega (arith, below-le c tr b, child-more c tr ch))
-    none-over {p} (inr (e, o)) ch = not-over ch (λ b. clash (below-over real (below-trans c tr (child-below c tr ch) b)) o)
+    none-over {p} (inr (e, o)) ch = not-over ch (λ b. clash (below-over c tr real (below-trans c tr (child-below c tr ch) b)) o)
 
     pub off-way : {p : State} → Towards c s p [] → (onTheWay c p s ≡ 0) × ((k : State) → Child c p k → Towards c s k [])
     unfolding onTheWay
@@ -166,8 +99,8 @@ module _ (c : Chart) (rt : Right c) where
         | inl e ↦ rw (e, ← eqb-true p s (and-left (eqb p s) _ e)) (parent-above p h)
         | inr e ↦ rw e
             (elim (first-mem (λ x. over c x s && every (over c x) (junctionParents c path)) (line c deepest p)) [
-              | inl z ↦ rw z (over-below real (tr .depth s real))
-              | inr m ↦ over-below real (and-left _ _ (m .1))
+              | inl z ↦ rw z (over-below c tr real (tr .depth s real))
+              | inr m ↦ over-below c tr real (and-left _ _ (m .1))
             ])
       ]
     where

@@ -3,7 +3,7 @@
 use mathlib.Core.Path.{_≡_, refl, sym, subst, _∙_}
 use mathlib.Core.Logic.{inl, inr}
 use mathlib.Core.Bool.{true, false}
-use mathlib.Core.List.{List, [], _∷_}
+use mathlib.Core.List.{List}
 use Prim.Native.Nat.{ℕ, zero, suc, _%_, _<_}
 use lib.IntN.{pos}
 use Rattle.rules.specs.Bytes.{unsigned}
@@ -12,11 +12,11 @@ use Rattle.rules.specs.Chart as C
 use Rattle.rules.specs.Chart.{State, Chart, Op, Instruction, states}
 use Rattle.rules.specs.Accept.{isSend, opRule, operandsRight}
 use Rattle.rules.specs.Image.{Image, isActive}
-use Rattle.rules.specs.Doing.{Now, pay}
-use Rattle.rules.specs.Block.{Stack, Ran, ran, abandoned, unlessAbandoned, gone, Sent, noSend, sentBy, instruct, perform}
+use Rattle.rules.specs.Doing.{Now}
+use Rattle.rules.specs.Block.{Stack, Ran, ran, abandoned, gone, Sent, noSend, sentBy, instruct, perform}
 use Rattle.rules.specs.Fire.{levels}
 use Rattle.rules.specs.Run.{run, send}
-use Rattle.rules.proofs.Laws.{two, both, clash}
+use Rattle.rules.proofs.Laws.{two, clash}
 use Rattle.rules.proofs.Taken.{Tree, Right, hasOperands, tree, operand-names}
 use Rattle.rules.proofs.Blocks.{How, keeps-set, t-instruct}
 use Rattle.rules.proofs.Triple.{t-same}
@@ -25,7 +25,8 @@ use Rattle.rules.proofs.Firing.{Going}
 use Rattle.rules.proofs.Running.{going, going-quiet, t-run, t-send}
 use Rattle.semantics.specs.Relation as R
 use Rattle.semantics.specs.Relation.{⇝a, ⇝i, ⇝runS, _⊢_, Gives, Goes}
-use Rattle.semantics.proofs.Inverting.{kept, paid, then-inv, bind-inv, then-goes, bind-goes, give-inv, give-goes, look-inv, look-goes, refuse-inv, active-inv, idle-inv, active-goes, idle-goes}
+use Rattle.semantics.proofs.Actions.{block-sound}
+use Rattle.semantics.proofs.Inverting.{kept, then-inv, bind-inv, then-goes, bind-goes, give-inv, give-goes, look-inv, look-goes, refuse-inv, active-inv, idle-inv, active-goes, idle-goes}
 
 -- an op is a send, or it does the same whatever a send does
 data Kind (i : Instruction) (s₁ s₂ : Sent) (st : Stack) : Op → Type 0 where
@@ -172,22 +173,9 @@ module _ (c : Chart) (rt : Right c) where
     -- a block, from an instruction on
     pub perform-sound : SendsSound c k → (st : Stack) (is : List Instruction) (n n′ : Now) (r : Ran)
         → every (hasOperands c) is ≡ true → Going c p (n .image) → Performs st is n r n′ → c ⊢ ⇝a k p st is n n′ r
-    unfolding perform every unlessAbandoned
-    perform-sound sound st [] n n′ r v g w = let (x, y) = give-inv w in rw (← x, y) R.Skip
-    perform-sound sound st (i ∷ is) n n′ r v g w =
-        let (v₁, v₂) = both (hasOperands c i) _ v in
-        let b₁ = then-inv _ _ w in
-        let b₂ = bind-inv _ _ (b₁ .behind) in
-        let g₁ = paid (Going c p) (b₁ .before) g in
-        go (b₂ .gave) (b₁ .before) (ins-sound sound i st _ v₁ g₁ (b₂ .before)) (ins-kept i st _ v₁ g₁ (b₂ .before)) (b₂ .behind)
-        (λ st′ m u x. perform-sound sound st′ is m n′ r v₂ u x)
-      where
-        go : (q : Ran) {n₁ n₂ : Now} → Goes pay n n₁ → c ⊢ ⇝i k p st i n₁ n₂ q → How (Going c p) (Good c) q (n₂ .image)
-            → Gives (unlessAbandoned q abandoned (λ st′. perform (sentBy p (send c k)) st′ is)) n₂ r n′
-            → ((st′ : Stack) (m : Now) → Going c p (m .image) → Performs st′ is m r n′ → c ⊢ ⇝a k p st′ is m n′ r)
-            → c ⊢ ⇝a k p st (i ∷ is) n n′ r
-        go (ran st′) pd x u z f = R.SeqT pd x (f st′ _ u z)
-        go abandoned pd x u z f = let (y, e) = give-inv z in rw (← y, ← e) (R.SeqF pd x)
+    perform-sound sound st is n n′ r v g w =
+        block-sound c k p (sentBy p (send c k)) (hasOperands c) (Going c p)
+        (λ i st n n′ r v g x. (ins-sound sound i st r v g x, λ st′ e. rw e at (ins-kept i st r v g x))) st is n n′ r v g w
 
     -- and back
     pub plain-goes : (i : Instruction) (st : Stack) {n n′ : Now} {r : Ran} → isSend (i .op) ≡ false
@@ -199,20 +187,6 @@ module _ (c : Chart) (rt : Right c) where
             → Does i st o n r n′
         go o q is-send u = clash refl q
         go o q (is-plain x same) u = rw same u
-
-    pub skip-goes : (st : Stack) {n : Now} → Performs st [] n (ran st) n
-    unfolding perform
-    skip-goes st = give-goes
-
-    module _ (i : Instruction) (is : List Instruction) (st : Stack) {n n₁ n₂ : Now} (pd : Goes pay n n₁) where
-      pub seq-goes : {st₁ : Stack} {n₃ : Now} {r : Ran} → Does i st (i .op) n₁ (ran st₁) n₂ → Performs st₁ is n₂ r n₃
-          → Performs st (i ∷ is) n r n₃
-      unfolding perform unlessAbandoned
-      seq-goes x y = then-goes pd (bind-goes _ x y)
-
-      pub cut-goes : Does i st (i .op) n₁ abandoned n₂ → Performs st (i ∷ is) n abandoned n₂
-      unfolding perform unlessAbandoned
-      cut-goes x = then-goes pd (bind-goes _ x give-goes)
 
   module _ (k : ℕ) (p b : State) (i : Instruction) (st : Stack) (v : hasOperands c i ≡ true) (q : i .op ≡ C.send)
       (e : i .b ≡ pos b) where
