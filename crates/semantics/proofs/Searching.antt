@@ -83,7 +83,7 @@ Tried c k e p m path ts = tries c (send c k) e p (passed c (send c k) e p m path
 abbrev pub Ways : Chart → List Segment → List Segment → Type 0
 Ways c path ts = (t : Segment) → Mem t ts → Way c path t
 
--- a list that was gone through: an empty one gives nowhere in the definitions, where 002 has -1
+-- a list that was gone through: an empty one gives nowhere in the definitions, where the relation has -1
 abbrev pub Gone : Chart → ℕ → ℕ → State → ℕ → List Segment → Now → Now → Found → Type 0
 Gone c k e p l [] n n′ o = (o ≡ nowhere) × (n ≡ n′)
 Gone c k e p l (t ∷ ts) n n′ o = c ⊢ ⇝tl k e p l (t ∷ ts) n n′ o

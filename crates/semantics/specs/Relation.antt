@@ -3,7 +3,8 @@
 -- so. `c ⊢ ⇝exS p n n′` is 002's Γ ⊢ (p, α₁) →exS (α₂, ⊤). A premise in ⟦ ⟧ is 01's own: a unit is paid, an item noted, a limit
 -- kept, a state asked whether it is active, a chart whether it is started. Where 01 refuses, no rule applies: only what goes
 -- through has a derivation. Shared with the definitions, and so not told here: what an instruction other than a send does, what
--- a condition gives, the arena, the fields of chart and image. Assumes nothing.
+-- a condition gives, the arena, a unit and an item, the fields of chart and image, the lists made of them with their order, the
+-- tests and changes of an image. Assumes nothing.
 use mathlib.Core.Path.{_≡_}
 use mathlib.Core.Logic.{_⊎_}
 use mathlib.Core.Bool.{Bool, true, false}
@@ -66,10 +67,12 @@ pub data NoState : Found → Type 0 where
   failed : NoState nowhere
   terminal : NoState ended
 
--- The arrows of 002, each from a configuration n to the next, n′. Its →a is ⇝i of one instruction, ⇝a of a block from one on, and
--- ⇝at of the transition actions of a path. They take
+-- The arrows of 002, each from a configuration n to the next, n′. Its →a is ⇝i of one instruction, ⇝a of the rest of a block,
+-- from some instruction to its end, and ⇝at of the transition actions of a path. They take
 --   k, how many sends more may be opened, 0 where sends are barred; l, how many segments came before on the path (both 01's);
---   e, the event; p, the state, or the owner of a block or a search; h, the path down to the state that is to be entered;
+--   e, the event, where it is read; p, the state, or the owner of a block or a search;
+--   h, the path down to the target, or [] for none: of ⇝enS it begins with p itself, of ⇝enC with a child of p, of ⇝enSL with
+--   one of the states listed;
 -- and end with
 --   r, a block's stack, or early return; b, that there is no early return;
 --   o, a state that is reached (vt is 1) and the path to it, of which 002's transition actions and hp are made; or none (0, -1);
@@ -90,7 +93,8 @@ pub data Arrow : Type 0 where
 
 infix 4 _⊢_
 pub data _⊢_ (c : Chart) : Arrow → Type 0 where
-  -- Fig. 5, actions. A block is a list of instructions, over a stack; a send's event is a, and the state that it goes to is b
+  -- Fig. 5, actions. The figure is missing from the copy at hand: SendF and SeqF are as in section 3.3, SeqT as A.2 tells it. A
+  -- block is a list of instructions, over a stack; a send's event is a, and the state that it goes to is b
   SendF : {k : ℕ} {p b : State} {st : Stack} {i : Instruction} {n n′ : Now}
       → i .op ≡ C.send → i .b ≡ pos b → ⟦ isActive (n .image) b ≡ true ⟧ → c ⊢ ⇝runS k (i .a) b n n′
       → c ⊢ ⇝i (suc k) p st i n n′ (if isActive (n′ .image) p then ran st else abandoned)
@@ -100,8 +104,8 @@ pub data _⊢_ (c : Chart) : Arrow → Type 0 where
   SeqF : {k : ℕ} {p : State} {st : Stack} {i : Instruction} {is : List Instruction} {n n₁ n₂ : Now}
       → ⟦ Goes pay n n₁ ⟧ → c ⊢ ⇝i k p st i n₁ n₂ abandoned
       → c ⊢ ⇝a k p st (i ∷ is) n n₂ abandoned
-  -- not shown in 002: a send to a state that is not active; an instruction that is no send; the end of a block; the transition
-  -- actions of a path, which 002 joins by SeqT
+  -- not in that copy: a send to a state that is not active; an instruction that is no send (002's assignment and print); the end
+  -- of a block (its Skip); the transition actions of a path, which 002 joins by SeqT
   SendN : {k : ℕ} {p b : State} {st : Stack} {i : Instruction} {n : Now}
       → i .op ≡ C.send → i .b ≡ pos b → ⟦ isActive (n .image) b ≡ false ⟧
       → c ⊢ ⇝i k p st i n n (ran st)
