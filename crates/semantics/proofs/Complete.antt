@@ -14,9 +14,9 @@ use Rattle.rules.specs.Chart as C
 use Rattle.rules.specs.Accept.{isSend, opRule}
 use Rattle.rules.specs.Chart.{State, Segment, Chart, Op, Instruction, states, segments, entry, during, exit, transitionAction, isOneOf, children, outer, inner, code}
 use Rattle.rules.specs.Image.{isActive, notStarted, accepted}
-use Rattle.rules.specs.Doing.{Now, Done, pay, duringPoint, segmentPassed, note, each, whenActive}
+use Rattle.rules.specs.Doing.{Now, Done, pay, duringPoint, note, each, whenActive}
 use Rattle.rules.specs.Block.{Stack, Ran, ran, abandoned, unlessAbandoned, noSend, sentBy, instruct, perform}
-use Rattle.rules.specs.Search.{Found, reached, nowhere, ended, cut, passes, search}
+use Rattle.rules.specs.Search.{Found, reached, nowhere, ended, cut, search}
 use Rattle.rules.specs.Fire.{levels, leaveEach, noteLeft, leave, enterEach, enter, arena, transit, fire}
 use Rattle.rules.specs.Run.{follow, runActive, runChildren, runInside, runDuring, run, send, start, step}
 use Rattle.rules.proofs.Laws.{both, clash}
@@ -26,7 +26,7 @@ use Rattle.rules.proofs.Trees.{Deep, deep-child, deep-end}
 use Rattle.rules.proofs.Soundness.{Sound}
 use Rattle.rules.proofs.Shape.{Good}
 use Rattle.rules.proofs.Firing.{Going, Path, up-root, up-arena}
-use Rattle.rules.proofs.Running.{Reach, Got, no-way, going, t-send, t-owns, t-run, t-passes}
+use Rattle.rules.proofs.Running.{Reach, Got, no-way, going, t-send, t-run, t-passes}
 use Rattle.rules.proofs.Accepting.{sound, started-good}
 use Rattle.semantics.specs.Relation as R
 use Rattle.semantics.specs.Relation.{Arrow, _⊢_, Gives, Goes, ActiveChild, Descent, tail, towards, NoState, failed, terminal}
@@ -36,9 +36,9 @@ use Rattle.semantics.proofs.Exits.{from-records, Standing, Remaining, s
 use Rattle.semantics.proofs.Towards.{Towards, on-way, off-way, each-way}
 use Rattle.semantics.proofs.Entries.{all-goes, enO1-goes, enO2-goes, enO3-goes, enter-goes, ready-sound, record-child, no-record, enter-sound}
 use Rattle.semantics.proofs.Sends.{named, plain-goes, send-goes, unsend-goes, ins-kept}
-use Rattle.semantics.proofs.Searching.{passes-goes, along-nothing}
-use Rattle.semantics.proofs.Found.{Passing, Finds, none-tried, fail-goes, reached-stops, ended-stops, cut-stops, next-goes, nowhere-kept, state-goes, early-goes, junction-goes}
-use Rattle.semantics.proofs.Sound.{active-child, standing, transit-sound, searched-kept, outer-real, inner-real}
+use Rattle.semantics.proofs.Searching.{passes-goes, along-nothing, noted-kept}
+use Rattle.semantics.proofs.Finding.{Passing, Finds, none-tried, fail-goes, reached-stops, ended-stops, cut-stops, next-goes, nowhere-kept, state-goes, early-goes, junction-goes}
+use Rattle.semantics.proofs.Sound.{active-child, standing, transit-sound, searched-kept, during-kept, outer-real, inner-real}
 
 -- the children of p are m levels down; so is each of a list
 abbrev Down : Chart → ℕ → State → Type 0
@@ -177,14 +177,6 @@ module _ (c : Chart) (rt : Right c) where
       unfolding unlessAbandoned
       abandoned-goes = give-goes
 
-    -- p is there behind its during action
-    during-kept : {n n₁ n₂ : Now} {st : Stack} → Goes (note duringPoint p) n n₁
-        → Gives (perform (sentBy p (send c k)) [] (code c (during c p))) n₁ (ran st) n₂ → Going c p (n .image)
-        → Going c p (n₂ .image)
-    during-kept i a g =
-        kept (t-owns c rt (send c k) (t-send c rt k) e p (g .1 .state) (during c p) (during-valid c rt p (g .1 .state))) a
-        (noted (Going c p) duringPoint p i g)
-
     -- no state by the outer list, and the during action comes to its end
     after-during : (d : ℕ) (o : Found) {n n₁ n₂ n₃ n₄ n₅ : Now} {st : Stack} → Goes pay n n₁ → Going c p (n .image)
         → Finds c k e p 0 (outer c p) n₁ n₂ o → NoState o → Goes (note duringPoint p) n₂ n₃
@@ -195,7 +187,7 @@ module _ (c : Chart) (rt : Right c) where
     after-during d o pd g x s i a w =
         outer-none d o pd g x s (λ g₂.
         let a′ = a .0 (during-valid c rt p (g .1 .state) .operands) (noted (Going c p) duringPoint p i g₂) in
-        during-goes d _ i a′ (w (during-kept i a′ g₂)))
+        during-goes d _ i a′ (w (during-kept c rt k e p i a′ g₂)))
 
     -- a path is found, and fired
     fires : (ts : List Segment) → Path c ts → (m : Done) (s : State) (path : List Segment) (h : List State) (n n₁ n₂ n₃ n₄ : Now)
@@ -223,11 +215,6 @@ module _ (c : Chart) (rt : Right c) where
         → Goes (runChildren c (run c (send c k) e d) p) n n′
     unfolding runChildren
     runA-goes d o w = no-goes _ _ _ o w
-
-  -- what holds at a segment's condition action
-  passed-going : (p : State) (e : ℕ) (t : Segment) → t < segments c → {n n₁ n₂ : Now} → Gives (passes c e t) n true n₁
-      → Goes (note segmentPassed t) n₁ n₂ → Going c p (n .image) → Going c p (n₂ .image)
-  passed-going p e t real x i g = noted (Going c p) segmentPassed t i (kept (t-passes c rt p e t real) x g)
 
   enS-goes : (h p : State) {n n′ : Now} → ((d m : ℕ) → m + d ≡ 9 → Down c m p → Goes (enter c (suc d) h p) n n′)
       → (d m : ℕ) → m + d ≡ 9 → p < states c → Deep c m p → Goes (enter c d h p) n n′
@@ -288,15 +275,15 @@ module _ (c : Chart) (rt : Right c) where
       let done = action-goes c rt (transitionAction c t) (goes a .1 (transition-silent c rt t (real t (List·Memᴰ·head refl)))) in
       transit-goes c rt t path i done (goes x (λ u j. real u (List·Memᴰ·tail j)))
   goes R.SkipP = λ real. none-goes _
-  goes (R.TrT {e = e} {p = p} {t = t} x l i a) = λ real g.
+  goes (R.TrT {k = k} {e = e} {p = p} {t = t} x l i a) = λ real g.
       let valid = conditionAction-valid c rt t real in
       let x′ = passes-goes c e t x in
-      let g₂ = passed-going p e t real x′ i g in
+      let g₂ = noted-kept c rt k e p (g .1 .state) t real x′ i g in
       record { n₁ = _; n₂ = _; how = _; enabled = x′; few = l; noted = i; acted = goes a .0 (valid .operands) g₂; says = refl }
-  goes (R.TrF {e = e} {p = p} {t = t} x l i a) = λ real g.
+  goes (R.TrF {k = k} {e = e} {p = p} {t = t} x l i a) = λ real g.
       let valid = conditionAction-valid c rt t real in
       let x′ = passes-goes c e t x in
-      let g₂ = passed-going p e t real x′ i g in
+      let g₂ = noted-kept c rt k e p (g .1 .state) t real x′ i g in
       record { n₁ = _; n₂ = _; how = _; enabled = x′; few = l; noted = i; acted = goes a .0 (valid .operands) g₂; says = refl }
   goes (R.ToS {k = k} {e = e} {l = l} {p = p} {t = t} {ts = ts} pd x s) = λ m path z q ways g.
       state-goes c rt k e p l t m path ts z q ways pd g (goes x) s
@@ -334,7 +321,7 @@ module _ (c : Chart) (rt : Right c) where
   goes R.exSL0 = λ d m l p h o deep r. none-goes _
   goes (R.exSL {p = k} {ps = ks} {n₁ = n₁} x y) = λ d m l p h o deep r.
       let ch = r .kids k (List·Memᴰ·head refl) in
-      let v = goes x d m l (ch .state) (deep k ch) (standing-first c rt r) n₁ (unrecorded-goes c rt d m l h o ch) in
+      let v = goes x d m l (ch .state) (deep k ch) (standing-first c rt r) n₁ (unrecorded-goes c rt h o ch) in
       let le = left-after c rt d m l (ch .above) (ch .state) (deep k ch) (r .sound) v in
       more-goes _ k ks (active-goes k _ (r .on k (List·Memᴰ·head refl)) v) (goes y d m l p h o deep (remaining-rest c rt r le))
   goes (R.exA {p = p} o x) = λ d m l h deep s. exA-goes c rt d h o s (λ r. goes x d m l p h o deep r)

@@ -160,6 +160,27 @@ module _ (c : Chart) (rt : Right c) where
       let (q, ch, a, u) = s .fine p h (omega arith) .one (s .on) o in
       (q, record { child = ch; active = a; only = λ j cj d. not-yes (isActive im j) (λ e. d (u j cj e)) })
 
+  sole-of : {p q : State} {im : Image} → p < states c → isOneOf c p ≡ true → Standing c p im → ActiveChild c im p q
+      → Sole p q im
+  sole-of {p} {q} h o s a =
+      let (k, u) = sole h o s in
+      let ch = children-mem c p (isIn-mem q (children c p) (a .child)) in
+      elim (ℕ-discrete q k) [ yes e ↦ rw e u | no ne ↦ clash (a .active) (u .only q ch ne) ]
+
+  -- a child of a state that is not one-of is recorded nowhere
+  not-recorded : {p k : State} → p < states c → isOneOf c p ≡ false → Child c p k → keepsHistory c (parent c k) ≡ false
+  not-recorded h o ch = rw (ch .of) (tr .histories _ h o)
+
+  pub unrecorded-goes : {p k : State} {m : Now} → p < states c → isOneOf c p ≡ false → Child c p k → Goes (noteLeft c k) m m
+  unfolding noteLeft
+  unrecorded-goes h o ch = no-goes _ _ _ (not-recorded h o ch) done-goes
+
+  unrecorded-inv : {p k : State} {m m′ : Now} → p < states c → isOneOf c p ≡ false → Child c p k
+      → Goes (noteLeft c k) m m′ → m ≡ m′
+  unfolding noteLeft
+  unrecorded-inv h o ch w =
+      elim (choose-inv _ _ _ w) [ inl (e, v) ↦ clash e (not-recorded h o ch) | inr (e, v) ↦ done-inv v ]
+
   -- n levels down, with d to go
   module _ (d n : ℕ) (l : n + d ≡ 9) where
     pub left-after : {k : State} {m m′ : Now} → 0 < k → k < states c → Deep c n k → Sound c (m .image) → Goes (leave c d k) m m′
@@ -215,14 +236,7 @@ module _ (c : Chart) (rt : Right c) where
                 (sole-goes ys (λ j k. kids j (List·Memᴰ·tail k)) (later i ne) s o w)
           ]
 
-    -- from the one active child to the composition, and back
-    sole-of : {p q : State} {im : Image} → p < states c → isOneOf c p ≡ true → Standing c p im → ActiveChild c im p q
-        → Sole p q im
-    sole-of {p} {q} h o s a =
-        let (k, u) = sole h o s in
-        let ch = children-mem c p (isIn-mem q (children c p) (a .child)) in
-        elim (ℕ-discrete q k) [ yes e ↦ rw e u | no ne ↦ clash (a .active) (u .only q ch ne) ]
-
+    -- to leave the active child is to leave the composition
     pub exO-goes : {p q : State} {m m′ : Now} → p < states c → isOneOf c p ≡ true → ((k : State) → Child c p k → Deep c n k)
         → Standing c p (m .image) → ActiveChild c (m .image) p q → Goes (leave c d q) m m′
         → Goes (leaveEach c (leave c d) p) m m′
@@ -231,20 +245,6 @@ module _ (c : Chart) (rt : Right c) where
         let u = sole-of h o s a in
         sole-goes p q (deep q (u .child)) (childrenDown c p) (λ j k. childrenDown-mem c p k) (mem-childrenDown c p q (u .child))
         (s .sound) u w
-
-    -- a child of a state that is not one-of is recorded nowhere
-    not-recorded : {p k : State} → p < states c → isOneOf c p ≡ false → Child c p k → keepsHistory c (parent c k) ≡ false
-    not-recorded h o ch = rw (ch .of) (tr .histories _ h o)
-
-    pub unrecorded-goes : {p k : State} {m : Now} → p < states c → isOneOf c p ≡ false → Child c p k → Goes (noteLeft c k) m m
-    unfolding noteLeft
-    unrecorded-goes h o ch = no-goes _ _ _ (not-recorded h o ch) done-goes
-
-    unrecorded-inv : {p k : State} {m m′ : Now} → p < states c → isOneOf c p ≡ false → Child c p k
-        → Goes (noteLeft c k) m m′ → m ≡ m′
-    unfolding noteLeft
-    unrecorded-inv h o ch w =
-        elim (choose-inv _ _ _ w) [ inl (e, v) ↦ clash e (not-recorded h o ch) | inr (e, v) ↦ done-inv v ]
 
     -- what leaving k comes to, in 002's rules
     abbrev Exited : State → Now → Now → Type 0

@@ -5,7 +5,7 @@ pub mod Towards
 pub mod Entries
 pub mod Sends
 pub mod Searching
-pub mod Found
+pub mod Finding
 pub mod Sound
 pub mod Complete
 pub mod Exactly

@@ -101,6 +101,10 @@ module _ (c : Chart) (rt : Right c) (k e : ℕ) (p : State) (h : p < states c) w
       let each = t-passed c rt (send c k) (t-send c rt k) e p h m path in
       kept (t-tries c rt (send c k) (t-send c rt k) e p h _ path each ts ways) x g
 
+  pub noted-kept : (t : Segment) → t < segments c → {n n₁ n₂ : Now} → Gives (passes c e t) n true n₁
+      → Goes (note segmentPassed t) n₁ n₂ → Going c p (n .image) → Going c p (n₂ .image)
+  noted-kept t real x i g = noted (Going c p) segmentPassed t i (kept (t-passes c rt p e t real) x g)
+
   pub acted-kept : (t : Segment) → t < segments c → {n n′ : Now} {r : Ran}
       → Performs c rt k p [] (code c (conditionAction c t)) n r n′ → Going c p (n .image) → How (Going c p) (Good c) r (n′ .image)
   acted-kept t real x g =
@@ -227,7 +231,7 @@ module _ (c : Chart) (rt : Right c) (k e : ℕ) (p : State) (h : p < states c) w
     passed-sound (suc m) l path z q t way n n₁ n′ o g x w =
         let b₁ = then-inv _ _ w in
         let b₂ = bind-inv _ _ (b₁ .behind) in
-        let g₂ = noted (Going c p) segmentPassed t (b₁ .before) (kept (t-passes c rt p e t (way .real)) x g) in
+        let g₂ = noted-kept t (way .real) x (b₁ .before) g in
         let right = conditionAction-valid c rt t (way .real) .operands in
         let code = code c (conditionAction c t) in
         let a = perform-sound c rt k p sound [] code (b₁ .mid) (b₂ .mid) (b₂ .gave) right g₂ (b₂ .before) in

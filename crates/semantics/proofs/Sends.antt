@@ -61,14 +61,14 @@ unfolding if_then_else_
 there p st im e = rw e
 
 -- what a send comes to, with k more to open
-pub data Sending (c : Chart) : (k e : ℕ) (b : State) (n n′ : Now) → Type 0 where
-  sent : {k e : ℕ} {b : State} {n n′ : Now} → isActive (n .image) b ≡ true → c ⊢ ⇝runS k e b n n′ → Sending c (suc k) e b n n′
-  unsent : {k e : ℕ} {b : State} {n : Now} → isActive (n .image) b ≡ false → Sending c k e b n n
+pub data Dispatch (c : Chart) : (k e : ℕ) (b : State) (n n′ : Now) → Type 0 where
+  sent : {k e : ℕ} {b : State} {n n′ : Now} → isActive (n .image) b ≡ true → c ⊢ ⇝runS k e b n n′ → Dispatch c (suc k) e b n n′
+  unsent : {k e : ℕ} {b : State} {n : Now} → isActive (n .image) b ≡ false → Dispatch c k e b n n
 
 -- each of them that goes comes to that
 abbrev pub SendsSound : Chart → ℕ → Type 0
 SendsSound c k =
-    (e : ℕ) (b : State) (n n′ : Now) → b < states c → Good c (n .image) → Goes (send c k e b) n n′ → Sending c k e b n n′
+    (e : ℕ) (b : State) (n n′ : Now) → b < states c → Good c (n .image) → Goes (send c k e b) n n′ → Dispatch c k e b n n′
 
 module _ (c : Chart) (rt : Right c) where
   tr : Tree c
@@ -156,7 +156,7 @@ module _ (c : Chart) (rt : Right c) where
     ins-sound sound i st {n} {n′} r v g w = go (i .op) refl (kind-of i (sentBy p (send c k)) noSend st (i .op)) w
       where
         of-send : (s : State) (j : ℕ) (m m′ : Now) → i .op ≡ C.send → i .b ≡ pos s → Going c p (m .image)
-            → Sending c j (i .a) s m m′ → c ⊢ ⇝i j p st i m m′ (if isActive (m′ .image) p then ran st else abandoned)
+            → Dispatch c j (i .a) s m m′ → c ⊢ ⇝i j p st i m m′ (if isActive (m′ .image) p then ran st else abandoned)
         of-send s j m m′ q e a (sent on x) = R.SendF q e on x
         of-send s j m m′ q e a (unsent off) = rw (there p st (m .image) (a .1 .on)) (R.SendN q e off)
 

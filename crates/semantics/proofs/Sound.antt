@@ -12,7 +12,7 @@ use Rattle.rules.specs.Lists.{if_then_else_, first}
 use Rattle.rules.specs.Chart.{State, Segment, Chart, states, during, isOneOf, children, outer, inner, code}
 use Rattle.rules.specs.Image.{Image, isActive, notStarted, accepted}
 use Rattle.rules.specs.Doing.{Now, done, pay, duringPoint, note, each, whenActive}
-use Rattle.rules.specs.Block.{Stack, Ran, ran, abandoned, unlessAbandoned}
+use Rattle.rules.specs.Block.{Stack, Ran, ran, abandoned, unlessAbandoned, sentBy, perform}
 use Rattle.rules.specs.Search.{Found, reached, nowhere, ended, cut, search}
 use Rattle.rules.specs.Fire.{levels, leaveEach, leave, arena, transit, fire}
 use Rattle.rules.specs.Run.{follow, runActive, runChildren, runInside, runDuring, run, send, start, step}
@@ -33,7 +33,7 @@ use Rattle.semantics.proofs.Actions.{transits-sound, transits-kept}
 use Rattle.semantics.proofs.Exits.{Standing, emptied-sound, leaveEach-sound}
 use Rattle.semantics.proofs.Towards.{descent, arena-below}
 use Rattle.semantics.proofs.Entries.{enter-sound, enterEach-sound}
-use Rattle.semantics.proofs.Sends.{Sending, sent, unsent, SendsSound, perform-sound}
+use Rattle.semantics.proofs.Sends.{Dispatch, sent, unsent, SendsSound, perform-sound}
 use Rattle.semantics.proofs.Searching.{Gone, search-sound}
 
 module _ (c : Chart) (rt : Right c) where
@@ -62,6 +62,15 @@ module _ (c : Chart) (rt : Right c) where
   pub searched-kept : (k e : ℕ) (p : State) (ts : List Segment) → Path c ts → {n n′ : Now} {o : Found}
       → Gives (search c (send c k) e p ts) n o n′ → Going c p (n .image) → Got c p o (n′ .image)
   searched-kept k e p ts real w g = kept (t-search c rt (send c k) (t-send c rt k) e p (g .1 .state) ts real) w g
+
+  -- and behind its during action, where that does not abandon it
+  pub during-kept : (k e : ℕ) (p : State) {n n₁ n₂ : Now} {r : Ran} → Goes (note duringPoint p) n n₁
+      → Gives (perform (sentBy p (send c k)) [] (code c (during c p))) n₁ r n₂ → Going c p (n .image)
+      → How (Going c p) (Good c) r (n₂ .image)
+  during-kept k e p i a g =
+      let h = g .1 .state in
+      kept (t-owns c rt (send c k) (t-send c rt k) e p h (during c p) (during-valid c rt p h)) a
+      (noted (Going c p) duringPoint p i g)
 
   -- the arena stands
   pub standing : {s : State} {im : Image} → Good c im → Up c im s → Standing c s im
@@ -203,7 +212,7 @@ module _ (c : Chart) (rt : Right c) (k : ℕ) (sends : SendsSound c k) (e : ℕ)
           let g₁ = noted (Going c p) duringPoint p (b₁ .before) g in
           acted (b₂ .gave) x none (b₁ .before)
           (perform-sound c rt k p sends [] (code c (during c p)) _ _ _ (valid .operands) g₁ (b₂ .before))
-          (kept (t-owns c rt (send c k) (t-send c rt k) e p (g .1 .state) (during c p) valid) (b₂ .before) g₁) (b₂ .behind)
+          (during-kept c rt k e p (b₁ .before) (b₂ .before) g) (b₂ .behind)
 
       followed : {m₂ m₃ : Now} (o : Found) → Came c k e p (outer c p) m₁ m₂ o → Got c p o (m₂ .image)
           → Goes (follow c p o (runDuring c (send c k) e (run c (send c k) e d) p)) m₂ m₃ → c ⊢ ⇝runS k e p m m₃
@@ -229,7 +238,7 @@ module _ (c : Chart) (rt : Right c) (k : ℕ) (sends : SendsSound c k) (e : ℕ)
 
 module _ (c : Chart) (rt : Right c) where
   pub send-sound : (k e : ℕ) (b : State) (n n′ : Now) → b < states c → Good c (n .image) → Goes (send c k e b) n n′
-      → Sending c k e b n n′
+      → Dispatch c k e b n n′
   unfolding send
   send-sound zero e b n n′ h g w =
       elim (two (isActive (n .image) b)) [

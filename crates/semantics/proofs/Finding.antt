@@ -19,10 +19,10 @@ use Rattle.rules.proofs.Taken.{Right}
 use Rattle.rules.proofs.Blocks.{How}
 use Rattle.rules.proofs.Shape.{Good}
 use Rattle.rules.proofs.Firing.{Going}
-use Rattle.rules.proofs.Running.{Way, further, t-passes}
+use Rattle.rules.proofs.Running.{Way, further}
 use Rattle.semantics.specs.Relation.{Gives, Goes}
-use Rattle.semantics.proofs.Inverting.{kept, paid, noted, then-goes, bind-goes, give-goes, yes-goes, no-goes}
-use Rattle.semantics.proofs.Searching.{along, along-longer, one-longer, Tried, Ways, tried-kept, acted-kept}
+use Rattle.semantics.proofs.Inverting.{paid, noted, then-goes, bind-goes, give-goes, yes-goes, no-goes}
+use Rattle.semantics.proofs.Searching.{along, along-longer, one-longer, Tried, Ways, tried-kept, noted-kept, acted-kept}
 
 abbrev finished : Ran → Bool
 finished (ran st) = true
@@ -133,7 +133,7 @@ module _ (c : Chart) (rt : Right c) (k e : ℕ) (p : State) (l : ℕ) (t : Segme
   passing-kept real q g =
       still (q .how) (q .says)
       (acted-kept c rt k e p (g .1 .state) t real (q .acted)
-      (noted (Going c p) segmentPassed t (q .noted) (kept (t-passes c rt p e t real) (q .enabled) g)))
+      (noted-kept c rt k e p (g .1 .state) t real (q .enabled) (q .noted) g))
 
   -- and behind a junction's own list that leads nowhere
   pub nowhere-kept : (path : List Segment) (n n′ : Now) → length path ≡ l → l < 128 → Way c path t → endsOnState c t ≡ false
