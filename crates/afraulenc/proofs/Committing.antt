@@ -13,7 +13,7 @@ use Rattle.rules.specs.Chart.{Chart}
 use Rattle.rules.specs.Image.{Image, imageSize}
 use Rattle.rules.specs.Doing.{because, itemSize, roomOf}
 use Rattle.rules.specs.Run.{step}
-use Rattle.rules.specs.Calls.{withPart, numberOnly, begin, itemBytes, stepAnswer, packed, left}
+use Rattle.rules.specs.Calls.{withPart, numberOnly, begin, itemBytes, stepAnswer, packed, observed}
 use Rattle.rules.proofs.ItemBytes.{items-length}
 use Rattle.rules.proofs.Spending.{step-spends}
 use Rattle.rules.proofs.Rooming.{step-rooms}
@@ -105,7 +105,7 @@ module _ {c : Chart} {part trace : Bytes} {e allowance : ℕ} {d : Done} {im : I
     (ran : Ran c part trace e allowance d im tr) where
   pub refused-left : {r : Refusal} → d ≡ Refused r
       → record { answer = r .number; board = part; trace = trace } ≡ steppedOn c part trace e allowance
-  unfolding steppedOn stepAnswer numberOnly left packed because
+  unfolding steppedOn stepAnswer numberOnly observed packed because
   refused-left {r} w = rw (was-refused im tr r (ran .outcome) w, add-zero (r .number), add-zero (r .number))
 
   module _ {k : Counts} (w : d ≡ Went k) where
@@ -140,7 +140,7 @@ module _ {c : Chart} {part trace : Bytes} {e allowance : ℕ} {d : Done} {im : I
       pub went-left : {a : ℕ} {b t : Bytes} → length part ≡ imageSize → a ≡ 256 * k .items + 131072 * (allowance - k .units) → b ≡ im
           → t ≡ itemBytes (take (k .items) (tr ++ rest)) ++ drop (itemSize * length (take (k .items) (tr ++ rest))) trace
           → record { answer = a; board = b; trace = t } ≡ steppedOn c part trace e allowance
-      unfolding steppedOn stepAnswer left packed because withPart
+      unfolding steppedOn stepAnswer observed packed because withPart
       went-left ep ea eb et =
           let none : k .items - length tr ≡ 0 = omega (arith, noted) in
           let past : drop imageSize part ≡ [] = drop-of-length-le part {i = imageSize} (omega arith) in

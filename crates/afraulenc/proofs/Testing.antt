@@ -1,7 +1,7 @@
 -- The tests of a call, in order: the chart's, the lift's part of the board, then those of the part itself. A step of a part
 -- is the step of the board whose part it is. Assumes nothing.
 use mathlib.Core.Path.{_≡_, refl, sym, ap, _∙_}
-use mathlib.Core.Bool.{Bool, true, false, _||_, not, cond}
+use mathlib.Core.Bool.{Bool, true, false, _||_, not}
 use mathlib.Core.List.{[], append-assoc, append-nil}
 use Prim.Native.Nat.{ℕ, zero, suc, _+_, _-_, _*_, _≤_, _<_}
 use native.Mathlib.Nat.{add-zero}
@@ -12,14 +12,14 @@ use lib.Dec.{leb, ltb}
 use lib.ListN.{length, drop, take-append-drop, length-drop, drop-of-length-le}
 use lib.Seq.{length-take-le, drop-drop}
 use Rattle.rules.specs.Bytes.{Bytes}
-use Rattle.rules.specs.Lists.{within, _else_}
+use Rattle.rules.specs.Lists.{if_then_else_, within, _else_}
 use Rattle.rules.specs.Chart.{Chart, events}
 use Rattle.rules.specs.Accept.{_unless_next_, chartRefusal}
 use Rattle.rules.specs.Image.{Image, imageSize, accepted, freshImage}
 use Rattle.rules.specs.Doing.{because, Outcome, refused, went, mostUnits}
 use Rattle.rules.specs.Run.{step}
 use Rattle.rules.specs.Types.{partOf, partNumber}
-use Rattle.rules.specs.Calls.{Board, part, withPart, hasPart, partRefusal, numberOnly, freshTested, freshCall, begin, stepRefusal, stepAnswer, stepTested, stepCall, Left, packed, left}
+use Rattle.rules.specs.Calls.{Board, part, withPart, hasPart, partRefusal, numberOnly, unlessRefused, freshCall, begin, stepRefusal, stepAnswer, stepCall, Observed, packed, observed}
 use Rattle.rules.specs.declared.images.Image.{Image as Placed}
 use Rattle.rules.specs.declared.images.Part.{Part}
 use Rattle.rules.specs.declared.images.Part.the-variants.{At, Missing}
@@ -27,7 +27,7 @@ use Rattle.rules.specs.declared.headers.Header.{Header}
 use Rattle.rules.proofs.Laws.{both}
 use Rattle.rules.proofs.TypeNumbers.{part-number}
 use Rattle.chart.specs.Places.{headerOf}
-use Rattle.afraulenc.specs.Parts.{steppedOn, partTests, partTested, partStepped}
+use Rattle.afraulenc.specs.Parts.{steppedOn, partTests, partStepped}
 
 -- a range as the code tests it
 pub in-range : (lo hi n : ℕ) (a b : Bool) → ltb n lo ≡ a → ltb hi n ≡ b → within lo hi n ≡ not (a || b)
@@ -45,14 +45,14 @@ pub event-below : (c : Chart) (e : ℕ) → within 1 (events c) e ≡ true → e
 event-below c e t = leb-true e (events c) (both (leb 1 e) (leb e (events c)) t .1)
 
 -- a number, with all that was lent as it was
-number-left : (r : ℕ) (board : Board) (trace : Bytes) → record { answer = r; board = board; trace = trace } ≡ left (numberOnly (because r) board trace)
-unfolding left numberOnly packed because
+number-left : (r : ℕ) (board : Board) (trace : Bytes) → record { answer = r; board = board; trace = trace } ≡ observed (numberOnly (because r) board trace)
+unfolding observed numberOnly packed because
 number-left r board trace = rw (add-zero r, add-zero r)
 
 -- 13 to 15
 module _ (c : Chart) (im : Image) (trace : Bytes) (e allowance : ℕ) where
   tested : {r : ℕ} → partTests c im e allowance ≡ suc r → record { answer = suc r; board = im; trace = trace } ≡ partStepped c im trace e allowance
-  unfolding partStepped partTested
+  unfolding partStepped unlessRefused
   tested {r} q = rw q (number-left (suc r) im trace)
 
   pub not-accepted : accepted im c ≡ false → record { answer = 13; board = im; trace = trace } ≡ partStepped c im trace e allowance
@@ -70,8 +70,8 @@ module _ (c : Chart) (im : Image) (trace : Bytes) (e allowance : ℕ) where
   over-most a b h = tested (rw (a, b, lt-leb allowance mostUnits h))
 
   pub all-tested : accepted im c ≡ true → within 1 (events c) e ≡ true → allowance ≤ mostUnits
-      → {l : Left} → l ≡ steppedOn c im trace e allowance → l ≡ partStepped c im trace e allowance
-  unfolding partStepped partTests partTested _unless_next_
+      → {l : Observed} → l ≡ steppedOn c im trace e allowance → l ≡ partStepped c im trace e allowance
+  unfolding partStepped partTests steppedOn unlessRefused _unless_next_
   all-tested a b h told = rw (a, b, le-leb allowance mostUnits h) told
 
 -- where a lift's part is, by what was found
@@ -84,8 +84,9 @@ module _ (board : Board) (k : ℕ) {p : Part} (found : p ≡ partOf k (length bo
   unfolding partNumber
   there a = sym (part-number board k) ∙ ap partNumber (sym found ∙ a)
 
-  placed : {im : Placed} (t : Bool) → hasPart (length board) k ≡ t → cond t (At (record { at = imageSize * k })) Missing ≡ At im
+  placed : {im : Placed} (t : Bool) → hasPart (length board) k ≡ t → (if t then At (record { at = imageSize * k }) else Missing) ≡ At im
       → (im .at ≡ imageSize * k) × (imageSize * k + imageSize ≤ length board)
+  unfolding if_then_else_
   placed {im} true has e =
       let q : record { at = imageSize * k } ≡ im = cc in
       (sym (ap (λ (x : Placed). x .at) q), leb-true (imageSize * k + imageSize) (length board) (both (leb k 63) (leb (imageSize * k + imageSize) (length board)) has .1))
@@ -116,7 +117,7 @@ module _ (board : Board) (k : ℕ) {p : Part} (found : p ≡ partOf k (length bo
 -- a step of a part is the step of the board
 module _ (board : Board) (k : ℕ) (fits : length (part board k) ≡ imageSize) where
   -- the board with what a part's step leaves
-  abbrev onBoard : Left → Left
+  abbrev onBoard : Observed → Observed
   onBoard l = record { answer = l .answer; board = withPart board k (l .board); trace = l .trace }
 
   same-part : withPart board k (part board k) ≡ board
@@ -130,16 +131,17 @@ module _ (board : Board) (k : ℕ) (fits : length (part board k) ≡ imageSize) 
   whole-part im = rw (drop-of-length-le (part board k) {i = imageSize} (omega arith)) (append-nil im)
 
   answered : (trace : Bytes) (allowance : ℕ) (o : Outcome (Unit {0}))
-      → onBoard (left (stepAnswer (part board k) trace 0 allowance o)) ≡ left (stepAnswer board trace k allowance o)
-  unfolding left packed stepAnswer numberOnly
+      → onBoard (observed (stepAnswer (part board k) trace 0 allowance o)) ≡ observed (stepAnswer board trace k allowance o)
+  unfolding observed packed stepAnswer numberOnly
   answered trace allowance (refused r) = rw same-part
   answered trace allowance (went u n) = rw (whole-part (n .image))
 
-  stepped : (t : ℕ) (c : Chart) (trace : Bytes) (e allowance : ℕ)
-      → onBoard (partTested t c (part board k) trace e allowance) ≡ left (stepTested t c board trace k e allowance)
-  unfolding partTested steppedOn stepTested stepAnswer
-  stepped zero c trace e allowance = answered trace allowance (step c e (begin (part board k) trace allowance))
-  stepped (suc r) c trace e allowance = answered trace allowance (refused (because (suc r)))
+  stepped : (t : ℕ) (trace : Bytes) (allowance : ℕ) (o : Outcome (Unit {0}))
+      → onBoard (observed (unlessRefused t (part board k) trace (stepAnswer (part board k) trace 0 allowance o)))
+      ≡ observed (unlessRefused t board trace (stepAnswer board trace k allowance o))
+  unfolding unlessRefused stepAnswer
+  stepped zero trace allowance o = answered trace allowance o
+  stepped (suc r) trace allowance o = answered trace allowance (refused (because (suc r)))
 
 -- the first number that is not 0
 first : (r rest : ℕ) → (r ≡ 0 → ⊥) → r else rest ≡ r
@@ -150,49 +152,49 @@ first (suc r) rest wrong = refl
 -- the whole calls
 module _ (c : Chart) (board : Board) (trace : Bytes) (k e allowance : ℕ) where
   step-refused : (r : ℕ) → stepRefusal c board k e allowance ≡ r → (r ≡ 0 → ⊥)
-      → record { answer = r; board = board; trace = trace } ≡ left (stepCall c board trace k e allowance)
-  unfolding stepCall stepTested
+      → record { answer = r; board = board; trace = trace } ≡ observed (stepCall c board trace k e allowance)
+  unfolding stepCall unlessRefused
   step-refused zero told wrong = absurd (wrong refl)
   step-refused (suc r) told wrong = rw told (number-left (suc r) board trace)
 
   pub step-unchecked : {r : ℕ} → r ≡ chartRefusal c → (r ≡ 0 → ⊥)
-      → record { answer = r; board = board; trace = trace } ≡ left (stepCall c board trace k e allowance)
+      → record { answer = r; board = board; trace = trace } ≡ observed (stepCall c board trace k e allowance)
   unfolding stepRefusal
   step-unchecked {r} told wrong = step-refused r (rw (← told) (first r _ wrong)) wrong
 
   module _ (taken : 0 ≡ chartRefusal c) {p : Part} (found : p ≡ partOf k (length board)) where
-    pub step-missing : p ≡ Missing → record { answer = 12; board = board; trace = trace } ≡ left (stepCall c board trace k e allowance)
+    pub step-missing : p ≡ Missing → record { answer = 12; board = board; trace = trace } ≡ observed (stepCall c board trace k e allowance)
     unfolding stepRefusal _else_
     step-missing m = step-refused 12 (rw (← taken, missing board k found m)) (λ w. omega arith)
 
     pub step-there : {im : Placed} (a : p ≡ At im) {r : ℕ} {q t : Bytes}
         → record { answer = r; board = q; trace = t } ≡ partStepped c (midOf (im .at) (im .at + imageSize - im .at) board) trace e allowance
-        → record { answer = r; board = putMid (im .at) (im .at + imageSize - im .at) board q; trace = t } ≡ left (stepCall c board trace k e allowance)
+        → record { answer = r; board = putMid (im .at) (im .at + imageSize - im .at) board q; trace = t } ≡ observed (stepCall c board trace k e allowance)
     unfolding stepCall stepRefusal _else_ partStepped partTests
     step-there {im} a {r} {q} {t} told =
         rw (back board k found a q, ← taken, there board k found a)
-        (ap (onBoard board k fits) (rw (lent board k found a) at told) ∙ stepped board k fits (partTests c (part board k) e allowance) c trace e allowance)
+        (ap (onBoard board k fits) (rw (lent board k found a) at told) ∙ stepped board k fits (partTests c (part board k) e allowance) trace allowance _)
       where
         fits : length (part board k) ≡ imageSize
         fits = ap length (sym (lent board k found a)) ∙ length-lent board k found a
 
 module _ (c : Chart) (board : Board) (k : ℕ) where
   fresh-refused : (r : ℕ) → (chartRefusal c else partRefusal board k) ≡ r → (r ≡ 0 → ⊥)
-      → record { answer = r; board = board; trace = [] } ≡ left (freshCall c board k)
-  unfolding freshCall freshTested
+      → record { answer = r; board = board; trace = [] } ≡ observed (freshCall c board k)
+  unfolding freshCall unlessRefused
   fresh-refused zero told wrong = absurd (wrong refl)
   fresh-refused (suc r) told wrong = rw told (number-left (suc r) board [])
 
   pub fresh-unchecked : {r : ℕ} → r ≡ chartRefusal c → (r ≡ 0 → ⊥)
-      → record { answer = r; board = board; trace = [] } ≡ left (freshCall c board k)
+      → record { answer = r; board = board; trace = [] } ≡ observed (freshCall c board k)
   fresh-unchecked {r} told wrong = fresh-refused r (rw (← told) (first r _ wrong)) wrong
 
   module _ (taken : 0 ≡ chartRefusal c) {p : Part} (found : p ≡ partOf k (length board)) where
-    pub fresh-missing : p ≡ Missing → record { answer = 12; board = board; trace = [] } ≡ left (freshCall c board k)
+    pub fresh-missing : p ≡ Missing → record { answer = 12; board = board; trace = [] } ≡ observed (freshCall c board k)
     unfolding _else_
     fresh-missing m = fresh-refused 12 (rw (← taken, missing board k found m)) (λ w. omega arith)
 
     pub fresh-there : {im : Placed} (a : p ≡ At im) {q : Bytes} → q ≡ freshImage c
-        → record { answer = 0; board = putMid (im .at) (im .at + imageSize - im .at) board q; trace = [] } ≡ left (freshCall c board k)
-    unfolding freshCall freshTested _else_ left packed numberOnly because
+        → record { answer = 0; board = putMid (im .at) (im .at + imageSize - im .at) board q; trace = [] } ≡ observed (freshCall c board k)
+    unfolding freshCall unlessRefused _else_ observed packed numberOnly because
     fresh-there a {q} made = rw (back board k found a q, ← taken, there board k found a, made)

@@ -83,7 +83,7 @@ pub extern "C" fn step(
     event: u32,
     allowance: u32,
 ) -> u64
-    ensures { λ r. ⌜ record { answer = r; board = now (board .exit); trace = now (trace .exit) } ≡ rules.left (rules.stepCall (now (chart .entry)) (now (board .entry)) (now (trace .entry)) lift event allowance) ⌝ }
+    ensures { λ r. ⌜ record { answer = r; board = now (board .exit); trace = now (trace .exit) } ≡ rules.observed (rules.stepCall (now (chart .entry)) (now (board .entry)) (now (trace .entry)) lift event allowance) ⌝ }
 {
     let refusal = checker::refusal(chart);
     if refusal != 0 {
@@ -106,7 +106,7 @@ pub extern "C" fn step(
 // A lift is made fresh for a chart. The answer is the refusal.
 #[no_mangle]
 pub extern "C" fn fresh(chart: &[u8], board: &mut [u8], lift: u32) -> u64
-    ensures { λ r. ⌜ record { answer = r; board = now (board .exit); trace = [] } ≡ rules.left (rules.freshCall (now (chart .entry)) (now (board .entry)) lift) ⌝ }
+    ensures { λ r. ⌜ record { answer = r; board = now (board .exit); trace = [] } ≡ rules.observed (rules.freshCall (now (chart .entry)) (now (board .entry)) lift) ⌝ }
 {
     let refusal = checker::refusal(chart);
     if refusal != 0 {
@@ -125,7 +125,7 @@ pub extern "C" fn fresh(chart: &[u8], board: &mut [u8], lift: u32) -> u64
 // The bound of a chart. The answer is refusal + 256 x bound.
 #[no_mangle]
 pub extern "C" fn bound(chart: &[u8]) -> u64
-    ensures { λ r. ⌜ record { answer = r; board = []; trace = [] } ≡ rules.left (rules.boundCall (now (chart .entry))) ⌝ }
+    ensures { λ r. ⌜ record { answer = r; board = []; trace = [] } ≡ rules.observed (rules.boundCall (now (chart .entry))) ⌝ }
 {
     let refusal = checker::refusal(chart);
     if refusal != 0 {

@@ -12,6 +12,7 @@ use borrow.Author.Tests.{ltb-true, ltb-false, lt-ltb, le-ltb, eqb-true, eqb-fals
 use mir.Syntax.{Width, w32, w64}
 use mir.Val.{SFits, toZ, ofZ}
 use mir.ValLaws.{toZ-ofZ}
+use Rattle.rules.specs.Lists.{if_then_else_}
 use Rattle.rules.specs.Bytes.{fits, equals, isZero}
 use Rattle.blocks.specs.Values.{within32, quotientOf, remainderOf, combined}
 use Rattle.blocks.specs.declared.values.Checked.the-variants.{Is, Outside}
@@ -26,11 +27,11 @@ widened v = read w64 (read w32 v)
 
 -- `within32` on each side of its test
 inside : (z : ℤ) → SFits w32 z → within32 z ≡ Is z
-unfolding within32 fits
+unfolding within32 fits if_then_else_
 inside z f = rw (lt-ltb (mag z) 2147483648 (f .sfits))
 
 outside : (z : ℤ) → 2147483648 ≤ mag z → within32 z ≡ Outside
-unfolding within32 fits
+unfolding within32 fits if_then_else_
 outside z h = rw (le-ltb (mag z) 2147483648 h)
 
 -- the two tests of `narrow`: one that is met shows a value outside, and two that are not a value of 32 bits
@@ -172,11 +173,11 @@ module _ (x y : ℤ) (f : SFits w32 y) (e : ofZ w32 y ≡ 0) where
   zero-divisor = sym (zero-bits y f) ∙ eq-eqb (ofZ w32 y) 0 e
 
   pub no-quotient : Outside ≡ quotientOf x y
-  unfolding quotientOf
+  unfolding quotientOf if_then_else_
   no-quotient = rw zero-divisor
 
   pub no-remainder : Outside ≡ remainderOf x y
-  unfolding remainderOf
+  unfolding remainderOf if_then_else_
   no-remainder = rw zero-divisor
 
 -- division by another
@@ -194,7 +195,7 @@ module _ (x y : ℤ) (fx : SFits w32 x) (fy : SFits w32 y) (ne : ofZ w32 y ≡ 0
   division = (rw (toZ-ofZ w32 y fy) (positive y fy ne), op-fits quotZ quotient-fits x y fx fy)
 
   pub quotient-is : within32 (read w64 (quotZ (widened x) (widened y))) ≡ quotientOf x y
-  unfolding quotientOf
+  unfolding quotientOf if_then_else_
   quotient-is = rw divisor (op-within quotZ quotient-fits x y fx fy)
 
   remainder-wide : read w64 (remZ (widened x) (widened y)) ≡ remZ x y
@@ -204,7 +205,7 @@ module _ (x y : ℤ) (fx : SFits w32 x) (fy : SFits w32 y) (ne : ofZ w32 y ≡ 0
   remainder-cast = rw remainder-wide (remainder-small x y fx fy)
 
   pub remainder-is : Is (read w32 (read w64 (remZ (widened x) (widened y)))) ≡ remainderOf x y
-  unfolding remainderOf
+  unfolding remainderOf if_then_else_
   remainder-is = rw (divisor, remainder-wide) (ap Is (toZ-ofZ w32 (remZ x y) (remainder-small x y fx fy)))
 
 -- an op that is told, on operands that were handed on

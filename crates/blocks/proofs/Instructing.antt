@@ -1,6 +1,6 @@
 -- One instruction, as the rules perform it: one law for each way in which the code answers. Assumes nothing.
 use mathlib.Core.Path.{_≡_, refl, sym}
-use mathlib.Core.Bool.{Bool, true, false, cond}
+use mathlib.Core.Bool.{Bool, true, false}
 use Prim.Native.Nat.{ℕ}
 use lib.ListN.{drop}
 use lib.IntN.{ℤ}
@@ -32,13 +32,13 @@ answered st (Is v) = give (ran (v onto drop 2 st))
 answered st Outside = refuse 17
 
 if-within : (st : Stack) (z : ℤ) (b : Bool)
-    → (if b then give (ran (z onto drop 2 st)) else refuse 17) ≡ answered st (cond b (Is z) Outside)
+    → (if b then give (ran (z onto drop 2 st)) else refuse 17) ≡ answered st (if b then Is z else Outside)
 unfolding if_then_else_ answered
 if-within st z true = refl
 if-within st z false = refl
 
 if-divided : (st : Stack) (m : Doing Ran) (x : Checked) → m ≡ answered st x
-    → (b : Bool) → (if b then refuse 17 else m) ≡ answered st (cond b Outside x)
+    → (b : Bool) → (if b then refuse 17 else m) ≡ answered st (if b then Outside else x)
 unfolding if_then_else_ answered
 if-divided st m x e true = refl
 if-divided st m x e false = e

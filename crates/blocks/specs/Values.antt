@@ -1,7 +1,7 @@
 -- What a binary op gives for two values, or that it is outside 32 bits. Assumes nothing.
-use mathlib.Core.Bool.{cond}
 use lib.IntN.{ℤ, _+ℤ_, _-ℤ_, _*ℤ_}
 use lib.Signed.{ltZ, quotZ, remZ}
+use Rattle.rules.specs.Lists.{if_then_else_}
 use Rattle.rules.specs.Bytes.{fits, equals, isZero, truth}
 use Rattle.rules.specs.Chart as op
 use Rattle.blocks.specs.declared.values.Checked.{Checked}
@@ -11,13 +11,13 @@ use Rattle.blocks.specs.declared.values.Binary.the-variants.{Add, Subtra
 
 -- z, where it is a signed 32-bit value
 unfoldable pub within32 : ℤ → Checked
-within32 z = cond (fits z) (Is z) Outside
+within32 z = if fits z then Is z else Outside
 
 unfoldable pub quotientOf : ℤ → ℤ → Checked
-quotientOf x y = cond (isZero y) Outside (within32 (quotZ x y))
+quotientOf x y = if isZero y then Outside else within32 (quotZ x y)
 
 unfoldable pub remainderOf : ℤ → ℤ → Checked
-remainderOf x y = cond (isZero y) Outside (Is (remZ x y))
+remainderOf x y = if isZero y then Outside else Is (remZ x y)
 
 unfoldable pub combined : Binary → ℤ → ℤ → Checked
 combined Add x y = within32 (x +ℤ y)

@@ -11,8 +11,8 @@ use lib.ListN.{length, set, replicate}
 use borrow.Author.Tests.{eqb-true}
 use Rattle.rules.specs.Bytes.{byte}
 use Rattle.rules.specs.Lists.{below, any, isIn}
-use Rattle.rules.specs.Chart.{Chart, Junction, Segment, junctions, segments, sourceKind, source, destination, endsOnState, startsAt, own}
-use Rattle.rules.specs.Bound.{leads, onward}
+use Rattle.rules.specs.Chart.{Chart, Junction, Segment, junctions, segments, sourceKind, source, destination, endsOnState, startsAt, fromJunction}
+use Rattle.rules.specs.Bound.{leadsTo, onward}
 use Rattle.rules.specs.declared.headers.Header.{Header}
 use Rattle.chart.specs.Places.{headerOf, segmentPlace}
 use Rattle.chart.proofs.Ranges.{is-in-keep}
@@ -40,9 +40,9 @@ flagsTo c here t = flags (λ j. any (λ u. leadsOn c here u && eqb (destination 
 
 module _ (c : Chart) where
   -- those that lead to j, of the segments of a list's junctions
-  leads-to : (j : Junction) (is : List Junction) → any (leads c j) is
+  leads-to : (j : Junction) (is : List Junction) → any (leadsTo c j) is
       ≡ any (λ t. eqb (sourceKind c t) 2 && isIn (source c t) is && (B.not (endsOnState c t) && eqb (destination c t) j)) (below (segments c))
-  unfolding leads own startsAt isIn
+  unfolding leadsTo fromJunction startsAt isIn
   leads-to j is =
       any-same _ _ (λ i. any-keep (startsAt c 2 i) (λ t. B.not (endsOnState c t) && eqb (destination c t) j) (below (segments c))) is
       ∙ any-swap (λ i t. startsAt c 2 i t && (B.not (endsOnState c t) && eqb (destination c t) j)) is (below (segments c))
@@ -62,7 +62,7 @@ module _ (c : Chart) where
     in-onward j =
         any-same _ _ (one-leads j) (below (segments c))
         ∙ any-left (ltb j (junctions c)) _ (below (segments c))
-        ∙ sym (is-in-keep (λ i. any (leads c i) is) j (below (junctions c)) ∙ rw (in-below j (junctions c), leads-to j is))
+        ∙ sym (is-in-keep (λ i. any (leadsTo c i) is) j (below (junctions c)) ∙ rw (in-below j (junctions c), leads-to j is))
 
     pub flags-onward : onwardFlags c (flagsOf is) ≡ flagsOf (onward c is)
     unfolding onwardFlags

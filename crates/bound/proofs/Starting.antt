@@ -26,6 +26,7 @@ use Rattle.bound.specs.Flags.{leadsOn}
 -- of a kind and a number that name a junction, and of those that name something else
 other-kind : (k n : ℕ) {s : Source} (tag : Source → ℕ) → ((j : JunctionNo) → tag (Junction j) ≡ 2) → s ≡ sourceNamed k n
     → (tag s ≡ 0) ⊎ ((tag s ≡ 1) ⊎ (tag s ≡ 3)) → (t : Bool) → eqb k 2 ≡ t → t ≡ false
+unfolding if_then_else_
 other-kind k n {s} tag at e other true p =
     let two : tag s ≡ 2 = ap tag (e ∙ rw (eqb-true k 2 p)) ∙ at (record { 0 = n }) in
     absurd (⊎-elim (λ w. omega arith) (λ w. ⊎-elim (λ v. omega arith) (λ v. omega arith) w) other)
@@ -33,6 +34,7 @@ other-kind k n tag at e other false p = refl
 
 junction-kind : (k n : ℕ) {s : Source} (j : JunctionNo) → s ≡ sourceNamed k n → s ≡ Junction j
     → (t u v : Bool) → eqb k 0 ≡ t → eqb k 1 ≡ u → eqb k 2 ≡ v → (v ≡ true) × (j .0 ≡ n)
+unfolding if_then_else_
 junction-kind k n j e i true u v p q r = (cc, cc)
 junction-kind k n j e i false true v p q r = (cc, cc)
 junction-kind k n j e i false false true p q r = (refl, cc)

@@ -11,7 +11,7 @@ use lib.ListN.{length, getD, set, replicate}
 use borrow.Author.Tests.{eq-eqb}
 use Rattle.rules.specs.Bytes.{byte}
 use Rattle.rules.specs.Lists.{below, keep, sumOver}
-use Rattle.rules.specs.Chart.{Chart, Segment, junctions, segments, sourceKind, source, destination, endsOnState, condition, conditionAction, startsAt, own}
+use Rattle.rules.specs.Chart.{Chart, Segment, junctions, segments, sourceKind, source, destination, endsOnState, condition, conditionAction, startsAt, fromJunction}
 use Rattle.rules.specs.Bound.{WWithin}
 use Rattle.rules.specs.declared.headers.Header.{Header}
 use Rattle.chart.specs.Places.{headerOf}
@@ -46,16 +46,16 @@ module _ (c : Chart) (bytes : (i : ℕ) → byte c i < 256) where
   pub on-within : (n : ℕ) (t : Segment) → capped (weightOn c (weightsWithin c n) t) ≡ capped (WWithin c (suc n) t)
   unfolding weightOn weightsWithin WWithin
   on-within n t =
-      rw (at-table (λ j. capped (sumOver (λ u. WWithin c n u) (own c j))) (destination c t) (bytes _))
-      (either-capped (endsOnState c t) (1 + condition c t .count + conditionAction c t .count) (sumOver (λ u. WWithin c n u) (own c (destination c t))))
+      rw (at-table (λ j. capped (sumOver (λ u. WWithin c n u) (fromJunction c j))) (destination c t) (bytes _))
+      (either-capped (endsOnState c t) (1 + condition c t .count + conditionAction c t .count) (sumOver (λ u. WWithin c n u) (fromJunction c (destination c t))))
 
   round-within : (n : ℕ) → roundOf c (weightsWithin c n) ≡ weightsWithin c (n + 1)
   unfolding roundOf weightsWithin
-  round-within n = rw (add-one n) (same-table _ _ (λ j h. sum-capped _ _ (on-within n) (own c j)))
+  round-within n = rw (add-one n) (same-table _ _ (λ j h. sum-capped _ _ (on-within n) (fromJunction c j)))
 
 no-rounds : (c : Chart) (n : ℕ) → n ≡ 256 → replicate n 0 ≡ weightsWithin c 0
 unfolding weightsWithin WWithin
-no-rounds c = zero-table _ (λ j. ap capped (sum-zeros (own c j)))
+no-rounds c = zero-table _ (λ j. ap capped (sum-zeros (fromJunction c j)))
 
 -- a loop over the segments, before segment n: the table has the sums of those passed
 pub record Round (c : Chart) (before : List ℕ) (e n : ℕ) (sums : List ℕ) : Type 0 where
@@ -72,7 +72,7 @@ module _ {c : Chart} {before : List ℕ} {e : ℕ} where
 
   module _ {n : ℕ} {sums : List ℕ} (p : Round c before e n sums) where
     pub round-all : e ≤ n → {h : Header} → h ≡ headerOf c → e ≡ h .segments → sums ≡ roundOf c before
-    unfolding roundOf own
+    unfolding roundOf fromJunction
     round-all l own all = let q : n ≡ segments c = ended (p .upTo) l ∙ all ∙ rw own in rw (← q) (p .tally)
 
     module _ (l : n < e) {next : List ℕ} where

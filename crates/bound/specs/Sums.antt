@@ -3,7 +3,7 @@ use mathlib.Core.List.{List, [], map}
 use Prim.Native.Nat.{ℕ, zero, suc, _+_, min}
 use lib.ListN.{getD, replicate}
 use Rattle.rules.specs.Lists.{if_then_else_, below, keep, sumOver}
-use Rattle.rules.specs.Chart.{State, Segment, Chart, segments, condition, conditionAction, during, destination, endsOnState, startsAt, own}
+use Rattle.rules.specs.Chart.{State, Segment, Chart, segments, condition, conditionAction, during, destination, endsOnState, startsAt, fromJunction}
 use Rattle.rules.specs.Doing.{Refusal, because, mostUnits}
 use Rattle.rules.specs.Bound.{WWithin, bound, boundRefusal}
 use Rattle.doing.specs.Held.{refusalOf}
@@ -25,11 +25,11 @@ module _ (c : Chart) where
       1 + condition c t .count + conditionAction c t .count + (if endsOnState c t then 0 else getD sums (destination c t) 0)
 
   unfoldable pub roundOf : List ℕ → List ℕ
-  roundOf sums = table (λ j. capped (sumOver (weightOn sums) (own c j)))
+  roundOf sums = table (λ j. capped (sumOver (weightOn sums) (fromJunction c j)))
 
   -- for each junction the sum of W of the first n segments of each way on
   unfoldable pub weightsWithin : ℕ → List ℕ
-  weightsWithin n = table (λ j. capped (sumOver (λ u. WWithin c n u) (own c j)))
+  weightsWithin n = table (λ j. capped (sumOver (λ u. WWithin c n u) (fromJunction c j)))
 
   -- a state's own run
   unfoldable pub stateRun : List ℕ → State → ℕ

@@ -2,7 +2,7 @@
 -- Assumes nothing.
 use mathlib.Core.Path.{_≡_, refl}
 use Prim.Native.Nat.{ℕ}
-use Rattle.rules.specs.Chart.{Chart, State, Junction, Segment, instructions, stateAt, junctionAt, segmentAt, variableAt, instructionAt, total, children, startsAt, outer, inner, own}
+use Rattle.rules.specs.Chart.{Chart, State, Junction, Segment, instructions, stateAt, junctionAt, segmentAt, variableAt, instructionAt, total, children, startsAt, outer, inner, fromJunction}
 use Rattle.chart.specs.Places.{headerOf, statePlace, junctionPlace, segmentPlace, variablePlace, instructionPlace}
 use Rattle.chart.proofs.Ranges.{below-range}
 use Rattle.chart.specs.Read.{childrenFrom, startingFrom}
@@ -39,6 +39,6 @@ module _ (c : Chart) where
   unfolding startingFrom inner startsAt
   own-inner s = rw below-range
 
-  pub own-own : (j : Junction) → startingFrom c (headerOf c) 2 j 0 ≡ own c j
-  unfolding startingFrom own startsAt
+  pub own-own : (j : Junction) → startingFrom c (headerOf c) 2 j 0 ≡ fromJunction c j
+  unfolding startingFrom fromJunction startsAt
   own-own j = rw below-range

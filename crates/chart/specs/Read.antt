@@ -1,10 +1,10 @@
 -- What the code's types mean, and lists from a number on. Assumes nothing.
-use mathlib.Core.Bool.{Bool, cond, _&&_}
+use mathlib.Core.Bool.{Bool, _&&_}
 use mathlib.Core.List.{List, [], _∷_}
 use Prim.Native.Nat.{ℕ, _+_}
 use lib.Dec.{eqb}
 use Rattle.rules.specs.Bytes.{Bytes, byte, field, signed}
-use Rattle.rules.specs.Lists.{range, keep}
+use Rattle.rules.specs.Lists.{if_then_else_, range, keep}
 use Rattle.rules.specs.Chart.{State, Segment, Chart, Block, Op, push, load, store, add, subtract, multiply, quotient, remainder, less, equal, not, raise, send, unknown, opOf, Instruction, parent}
 use Rattle.rules.specs.declared.headers.Header.{Header}
 use Rattle.chart.specs.declared.blocks.Block.{Block as CodeBlock}
@@ -51,13 +51,14 @@ instructionFrom b i =
 -- an end of a segment, by its kind and number
 abbrev pub sourceNamed : ℕ → ℕ → Source
 sourceNamed k n =
-    cond (eqb k 0) (source.Outer (record { 0 = n }))
-    (cond (eqb k 1) (source.Inner (record { 0 = n })) (cond (eqb k 2) (source.Junction (record { 0 = n })) source.Unknown))
+    if eqb k 0 then source.Outer (record { 0 = n })
+    else if eqb k 1 then source.Inner (record { 0 = n })
+    else if eqb k 2 then source.Junction (record { 0 = n }) else source.Unknown
 
 abbrev pub destinationNamed : ℕ → ℕ → Destination
 destinationNamed k n =
-    cond (eqb k 0) (destination.State (record { 0 = n }))
-    (cond (eqb k 1) (destination.Junction (record { 0 = n })) destination.Unknown)
+    if eqb k 0 then destination.State (record { 0 = n })
+    else if eqb k 1 then destination.Junction (record { 0 = n }) else destination.Unknown
 
 module _ (c : Chart) (h : Header) where
   -- the children of p from a number on

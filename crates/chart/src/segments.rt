@@ -168,7 +168,7 @@ pub fn inner(chart: &[u8], h: Header, s: StateNo, from: u16) -> Next
     starting(chart, h, 1, s.0, from)
 }
 
-pub fn own(chart: &[u8], h: Header, j: JunctionNo, from: u16) -> Next
+pub fn from_junction(chart: &[u8], h: Header, j: JunctionNo, from: u16) -> Next
     ensures { λ r. ⌜ r ≡ firstSegment (startingFrom (now (chart .entry)) h 2 (j .0) from) ⌝ }
 {
     starting(chart, h, 2, j.0, from)

@@ -13,8 +13,8 @@ use Rattle.rules.specs.Lists.{if_then_else_, range, keep, first}
 use Rattle.rules.specs.Chart.{State, Segment, Chart, deepest, states, parent, isOneOf, children, during, outer, inner, code}
 use Rattle.rules.specs.Image.{Image, isActive}
 use Rattle.rules.specs.Doing.{Refusal, Now, Outcome, refused, went, Done, give, done, after, _>>=_, _>>_, look, pay, duringPoint, note, each, whenActive}
-use Rattle.rules.specs.Block.{Ran, ran, abandoned, unlessAbandoned, sentBy, perform}
-use Rattle.rules.specs.Search.{Found, reached, nowhere, ended, cut, search}
+use Rattle.rules.specs.Block.{Ran, ran, abandoned, unlessAbandoned, sendFrom, perform}
+use Rattle.rules.specs.Search.{Found, reached, nowhere, ended, runAbandoned, search}
 use Rattle.rules.specs.Fire.{levels, fire}
 use Rattle.rules.specs.Run.{follow, runActive, runChildren, runInside, runDuring, run, send}
 use Rattle.rules.specs.declared.headers.Header.{Header}
@@ -46,7 +46,7 @@ module _ (c : Chart) (sends e : ℕ) (f : State → Done) (p : State) where
   followed-then (reached s path) rest n = sym (after-after (fire c p s path n) _ _ ∙ after-done (fire c p s path n))
   followed-then nowhere rest n = refl
   followed-then ended rest n = refl
-  followed-then cut rest n = refl
+  followed-then runAbandoned rest n = refl
 
   -- an edge's segments are followed
   edge-then : (ts : List Segment) (rest : Done) (n : Now)
@@ -64,11 +64,11 @@ module _ (c : Chart) (sends e : ℕ) (f : State → Done) (p : State) where
   unless-then abandoned n = refl
 
   acted-then : (n : Now)
-      → after (perform (sentBy p (send c sends)) [] (code c (during c p)) n) (λ r. unlessAbandoned r tt (λ _. runInside c (send c sends) e f p))
+      → after (perform (sendFrom p (send c sends)) [] (code c (during c p)) n) (λ r. unlessAbandoned r tt (λ _. runInside c (send c sends) e f p))
       ≡ after (after (acted c sends p (during c p) n) (λ b. if b then give true else followed c sends e p (inner c p))) inside
   unfolding acted _>>=_
   acted-then n =
-      let o = perform (sentBy p (send c sends)) [] (code c (during c p)) n in
+      let o = perform (sendFrom p (send c sends)) [] (code c (during c p)) n in
       after-same o unless-then ∙ sym (after-after o _ _) ∙ ap (λ (x : Outcome Bool). after x inside) (sym (after-after o _ _))
 
   during-then : (n : Now) → runDuring c (send c sends) e f p n ≡ after (insideAlone c sends e p n) inside

@@ -12,11 +12,11 @@ use lib.Seq.{take-set-le, getD-set-same, getD-set-other, take-suc-set}
 use borrow.Author.Tests.{ne-eqb}
 use Rattle.rules.specs.Lists.{if_then_else_}
 use Rattle.rules.specs.Bytes.{byte}
-use Rattle.rules.specs.Chart.{State, Segment, Chart, conditionAction, destination, endsOnState, own, code}
+use Rattle.rules.specs.Chart.{State, Segment, Chart, conditionAction, destination, endsOnState, fromJunction, code}
 use Rattle.rules.specs.Image.{Image}
 use Rattle.rules.specs.Doing.{Now, Outcome, refused, went, Doing, after, give, refuse, _>>=_, _>>_, pay, segmentPassed, note}
-use Rattle.rules.specs.Block.{Ran, ran, abandoned, unlessAbandoned, sentBy, perform}
-use Rattle.rules.specs.Search.{Found, reached, nowhere, ended, cut, orNext, passes, tries, passed, search}
+use Rattle.rules.specs.Block.{Ran, ran, abandoned, unlessAbandoned, sendFrom, perform}
+use Rattle.rules.specs.Search.{Found, reached, nowhere, ended, runAbandoned, orNext, passes, tries, passed, search}
 use Rattle.rules.specs.Run.{send}
 use Rattle.rules.specs.declared.headers.Header.{Header}
 use Rattle.rules.specs.declared.numbers.SegmentNo.{SegmentNo}
@@ -32,7 +32,7 @@ use Rattle.moves.proofs.Follows.{less-one}
 use Rattle.engine.specs.declared.cycle.Tried.{Tried}
 use Rattle.engine.specs.declared.cycle.Tried.the-variants as tried-is
 use Rattle.engine.specs.Told as told
-use Rattle.engine.specs.Told.{Try, failed, cutOff, triedOf, isAbandoned, later, listOf, tested, acted, passing, passingWithin, tried}
+use Rattle.engine.specs.Told.{Try, failed, ownerGone, triedOf, isAbandoned, later, listOf, tested, acted, passing, passingWithin, tried}
 use Rattle.engine.proofs.Joining.{after-after, after-same}
 use Rattle.engine.proofs.Listing.{list-of-first}
 use Rattle.engine.proofs.Units.{tried-falls}
@@ -52,7 +52,7 @@ module _ (c : Chart) (h : Header) (t : Segment) (is-own : h ≡ headerOf c) wher
   end-read e = rw is-own at e
 
   pub own-by-first : {j : ℕ} {next : Next} → next ≡ firstSegment (startingFrom c h 2 j 0) → j ≡ byte c (segmentPlace h t + 5)
-      → listOf c next ≡ own c (destination c t)
+      → listOf c next ≡ fromJunction c (destination c t)
   own-by-first e q = list-of-first c _ _ _ refl (rw (is-own, end-read q) at e) ∙ own-own c _
 
 -- a list that is tried, with the path to it and how many more may pass
@@ -76,13 +76,13 @@ module _ (c : Chart) (n e : ℕ) (s : State) where
   leads m path t ls b b′ =
       if b then give (reached (destination c t) (path ++ (t ∷ [])))
       else if b′ then give ended
-      else rest (record { more = m; path = path ++ (t ∷ []); list = own c (destination c t) } ∷ ls)
+      else rest (record { more = m; path = path ++ (t ∷ []); list = fromJunction c (destination c t) } ∷ ls)
 
   -- how it goes on by what trying a segment came to
   onward : ℕ → List Segment → Segment → List Level → Try → Doing Found
   onward m path t ls failed = rest ls
-  onward m path t ls cutOff = give cut
-  onward m path t ls told.passed = leads (m - 1) path t ls (endsOnState c t) (eqb (length (own c (destination c t))) 0)
+  onward m path t ls ownerGone = give runAbandoned
+  onward m path t ls told.passed = leads (m - 1) path t ls (endsOnState c t) (eqb (length (fromJunction c (destination c t))) 0)
 
   -- where nothing was found the next list is tried, and the one below it: these two are one
   or-or : (o : Found) (m k : Doing Found) (now : Now) → after (orNext o m now) (λ x. orNext x k) ≡ orNext o (m >>= (λ x. orNext x k)) now
@@ -90,7 +90,7 @@ module _ (c : Chart) (n e : ℕ) (s : State) where
   or-or (reached t path) m k now = refl
   or-or nowhere m k now = refl
   or-or ended m k now = refl
-  or-or cut m k now = refl
+  or-or runAbandoned m k now = refl
 
   module _ (path : List Segment) (t : Segment) (ts : List Segment) (ls : List Level) where
     abbrev below : ℕ → List Level
@@ -102,21 +102,21 @@ module _ (c : Chart) (n e : ℕ) (s : State) where
 
     -- the condition action was performed
     acted-ways : (m : ℕ) (r : Ran) (b b′ : Bool) (now : Now)
-        → after (unlessAbandoned r cut (λ _.
+        → after (unlessAbandoned r runAbandoned (λ _.
         if b then give (reached (destination c t) (path ++ (t ∷ [])))
         else if b′ then give ended
-        else trying m (path ++ (t ∷ [])) (own c (destination c t))) now) (orBelow (suc m))
-        ≡ (if isAbandoned r then give cut else leads m path t (below (suc m)) b b′) now
+        else trying m (path ++ (t ∷ [])) (fromJunction c (destination c t))) now) (orBelow (suc m))
+        ≡ (if isAbandoned r then give runAbandoned else leads m path t (below (suc m)) b b′) now
     unfolding unlessAbandoned isAbandoned if_then_else_ give orNext leads rest _>>=_
     acted-ways m (ran st) true b′ now = refl
     acted-ways m (ran st) false true now = refl
     acted-ways m (ran st) false false now =
-        after-same (trying m (path ++ (t ∷ [])) (own c (destination c t)) now) (λ o now₁. or-or o (trying (suc m) path ts) (rest ls) now₁)
+        after-same (trying m (path ++ (t ∷ [])) (fromJunction c (destination c t)) now) (λ o now₁. or-or o (trying (suc m) path ts) (rest ls) now₁)
     acted-ways m abandoned b b′ now = refl
 
     acted-on : (m : ℕ) (r : Ran) (now : Now)
-        → (if isAbandoned r then give cut else leads m path t (below (suc m)) (endsOnState c t) (eqb (length (own c (destination c t))) 0)) now
-        ≡ onward (suc m) path t (below (suc m)) (if isAbandoned r then cutOff else told.passed) now
+        → (if isAbandoned r then give runAbandoned else leads m path t (below (suc m)) (endsOnState c t) (eqb (length (fromJunction c (destination c t))) 0)) now
+        ≡ onward (suc m) path t (below (suc m)) (if isAbandoned r then ownerGone else told.passed) now
     unfolding isAbandoned if_then_else_ onward
     acted-on m (ran st) now = rw (less-one m)
     acted-on m abandoned now = refl
@@ -130,8 +130,8 @@ module _ (c : Chart) (n e : ℕ) (s : State) where
     tested-ways zero true now = refl
     tested-ways (suc m) true now =
         simp after-after (after-same (note segmentPassed t now) (λ u now₁.
-        after-same (perform (sentBy s (send c n)) [] (code c (conditionAction c t)) now₁) (λ r now₂.
-        acted-ways m r (endsOnState c t) (eqb (length (own c (destination c t))) 0) now₂ ∙ acted-on m r now₂)))
+        after-same (perform (sendFrom s (send c n)) [] (code c (conditionAction c t)) now₁) (λ r now₂.
+        acted-ways m r (endsOnState c t) (eqb (length (fromJunction c (destination c t))) 0) now₂ ∙ acted-on m r now₂)))
 
     rest-tried : (m : ℕ) (now : Now) → rest (record { more = m; path = path; list = t ∷ ts } ∷ ls) now
         ≡ after (tried c n e s m t now) (onward m path t (below m))
@@ -145,7 +145,7 @@ module _ (c : Chart) (n e : ℕ) (s : State) where
   nothing-after (went (reached t path) now) = refl
   nothing-after (went nowhere now) = refl
   nothing-after (went ended now) = refl
-  nothing-after (went cut now) = refl
+  nothing-after (went runAbandoned now) = refl
 
 -- the lists that wait, by the path: each segment of it says which one
 waiting : Chart → List Segment → ℕ → List Level
@@ -274,9 +274,9 @@ module _ (c : Chart) (n e : ℕ) (s : State) where
       pub tried-refused : {why : Refusal} → r ≡ tried-is.Refused why → refused (refusalOf why) ≡ toDo p₀
       tried-refused w = sym (turned ∙ rw w)
 
-      pub tried-cut : {k : Counts} → r ≡ tried-is.Cut k → went cut (nowOf im tr k) ≡ toDo p₀
+      pub tried-abandoned : {k : Counts} → r ≡ tried-is.Abandoned k → went runAbandoned (nowOf im tr k) ≡ toDo p₀
       unfolding onward give
-      tried-cut w = sym (turned ∙ rw w)
+      tried-abandoned w = sym (turned ∙ rw w)
 
       pub failed-less : {k : Counts} → r ≡ tried-is.Failed k → k .units < p .left .units
       failed-less w = tried-falls c n e s _ _ .at _ _ _ (sym (rw w at came))
@@ -320,7 +320,7 @@ module _ (c : Chart) (n e : ℕ) (s : State) where
 
         -- to a junction
         module _ (b : endsOnState c (t .0) ≡ false) {next : Next}
-            (h : listOf c next ≡ own c (destination c (t .0))) where
+            (h : listOf c next ≡ fromJunction c (destination c (t .0))) where
           pub passed-ended : next ≡ next-is.End → went ended (nowOf im tr k) ≡ toDo p₀
           unfolding onward leads if_then_else_ give listOf
           passed-ended z = sym (turned ∙ rw (w, b, sym h, z))

@@ -5,21 +5,21 @@ use mathlib.Core.Bool.{Bool, true, false, _||_, false≢true}
 use mathlib.Core.Bool as B
 use mathlib.Core.Logic.{_⊎_}
 use mathlib.Core.List.{List, [], _∷_}
-use Prim.Native.Nat.{ℕ, zero, suc, _+_, _-_, _*_, _≤_, _<_, _%_}
+use Prim.Native.Nat.{ℕ, zero, suc, _+_, _-_, _*_, _≤_, _<_}
 use native.Mathlib.Omega.{arith}
 use lib.Dec.{eqb}
 use lib.ListN.{length, take, drop}
-use lib.IntN.{ℤ}
+use lib.IntN.{ℤ, pos}
 use borrow.Author.Tests.{eq-eqb, ne-eqb}
 use denote.Enum.Declared.{tagOf}
-use Rattle.rules.specs.Bytes.{Bytes, byte, isZero, unsigned}
+use Rattle.rules.specs.Bytes.{Bytes, byte, isZero}
 use Rattle.rules.specs.Lists.{if_then_else_}
 use Rattle.rules.specs.Chart.{Chart, State, Op, Block, Instruction, blockAt, code}
 use Rattle.rules.specs.Chart as op
 use Rattle.rules.specs.Image.{Image, isActive}
 use Rattle.rules.specs.Accept.{opRule, isSend, isNone}
 use Rattle.rules.specs.Doing.{Refusal, because, Now, Outcome, refused, went, Doing, give, done, refuse, after, _>>=_, _>>_, look, pay, whenActive}
-use Rattle.rules.specs.Block.{Stack, Ran, ran, abandoned, unlessAbandoned, top, gone, Sending, Sent, noSend, sentBy, instruct, perform}
+use Rattle.rules.specs.Block.{Stack, Ran, ran, abandoned, unlessAbandoned, top, gone, Delivery, SendOp, noSend, sendFrom, sentTo, instruct, perform, value}
 use Rattle.rules.specs.Search.{holds, passes}
 use Rattle.rules.specs.Fire.{levels}
 use Rattle.rules.specs.Run.{run, send}
@@ -43,7 +43,7 @@ use Rattle.blocks.specs.declared.instruct.Performed.the-variants as performed
 use Rattle.blocks.specs.Code.{codeIn, instructed, paidFor}
 use Rattle.blocks.proofs.Performing.{code-end, code-step, still-held, part-code, no-code}
 use Rattle.moves.proofs.Follows.{less-one}
-use Rattle.engine.specs.Told.{Try, failed, passed, cutOff, isAbandoned, tested, paidSend, acted, passing, passingWithin, tried}
+use Rattle.engine.specs.Told.{Try, failed, passed, ownerGone, isAbandoned, tested, paidSend, acted, passing, passingWithin, tried}
 use Rattle.engine.proofs.Joining.{after-after}
 use Rattle.engine.proofs.Telling.{unlessOver, no-then, over-ends, yes-then, failed-ends}
 use Rattle.engine.proofs.Units.{paidFor-spends, paidSend-falls, no-keeps}
@@ -54,12 +54,10 @@ module _ (c : Chart) (h : Header) (k : CodeBlock) (part : Bytes) (own : h ≡ he
   pub part-has : codeIn part 0 (k .count) ≡ code c (blockOf k)
   part-has = rw (cut, own, part-code c (blockOf k))
 
--- a condition: empty, refused, or by the top of the stack that it leaves
+-- a condition: empty, refused, or by its value, the top of the stack that it leaves
 module _ (c : Chart) (n : Now) where
   unfoldable conditioned : Block → Doing Bool
-  conditioned k =
-      if isNone k then give true
-      else (perform noSend [] (code c k) >>= (λ r. unlessAbandoned r false (λ st. give (B.not (isZero (top st))))))
+  conditioned k = if isNone k then give true else (value c k >>= (λ z. give (B.not (isZero z))))
 
   module _ (h : Header) (own : h ≡ headerOf c) (t : ℕ) (k : CodeBlock) (is : blockOf k ≡ blockAt c (segmentPlace h t + 9)) where
     holds-is : conditioned (blockOf k) n ≡ holds c t n
@@ -73,8 +71,9 @@ module _ (c : Chart) (n : Now) where
     module _ (some : k .count ≡ 0 → ⊥) (part : Bytes) (cut : part ≡ take (6 * k .count) (drop (instructionPlace h (k .start)) c))
         (v : Performed) (cells : List ℤ) (im : Image) (tr : List ℕ)
         (told : ranOf v cells im tr ≡ perform noSend [] (codeIn part 0 (k .count)) n) where
-      holds-run : after (ranOf v cells im tr) (λ r. unlessAbandoned r false (λ st. give (B.not (isZero (top st))))) ≡ holds c t n
-      unfolding conditioned isNone if_then_else_ _>>=_
+      holds-run : after (after (ranOf v cells im tr) (λ r. unlessAbandoned r (pos 0) (λ st. give (top st)))) (λ z. give (B.not (isZero z)))
+          ≡ holds c t n
+      unfolding conditioned value isNone if_then_else_ _>>=_
       holds-run = rw (told, part-has c h k part own cut) (rw (ne-eqb (k .count) 0 some) at holds-is)
 
       pub holds-refused : {r : CodeRefusal} → v ≡ performed.Refused r → refused (refusalOf r) ≡ holds c t n
@@ -121,29 +120,29 @@ module _ (owner : State) (im : Image) (tr : List ℕ) where
   look-gone (Refused r) = refl
   look-gone (Went k) = refl
 
-  pub sent-told : (sending : Sending) (e b : ℕ) (d : Done) {n : Now} {all : Outcome Bool} {g : Bool}
-      → outcomeOf d im tr ≡ sending e b n → g ≡ gone owner im → all ≡ after (outcomeOf d im tr) (λ _. give g)
-      → all ≡ sentBy owner sending e b n
-  unfolding sentBy _>>_
-  sent-told sending e b d sent is told = rw (told, is, sym sent) (look-gone d)
+  pub sent-told : (deliver : Delivery) (e b : ℕ) (d : Done) {n : Now} {all : Outcome Bool} {g : Bool}
+      → outcomeOf d im tr ≡ deliver e b n → g ≡ gone owner im → all ≡ after (outcomeOf d im tr) (λ _. give g)
+      → all ≡ sendFrom owner deliver e b n
+  unfolding sendFrom _>>_
+  sent-told deliver e b d sent is told = rw (told, is, sym sent) (look-gone d)
 
 -- an instruction that is no send is performed alike where sends are barred
-plain : (sent : Sent) (o : Op) (i : Instruction) (st : Stack) → isSend o ≡ false → instruct sent o i st ≡ instruct noSend o i st
+plain : (sendOp : SendOp) (o : Op) (i : Instruction) (st : Stack) → isSend o ≡ false → instruct sendOp o i st ≡ instruct noSend o i st
 unfolding instruct isSend opRule
-plain sent op.push i st q = refl
-plain sent op.load i st q = refl
-plain sent op.store i st q = refl
-plain sent op.add i st q = refl
-plain sent op.subtract i st q = refl
-plain sent op.multiply i st q = refl
-plain sent op.quotient i st q = refl
-plain sent op.remainder i st q = refl
-plain sent op.less i st q = refl
-plain sent op.equal i st q = refl
-plain sent op.not i st q = refl
-plain sent op.raise i st q = refl
-plain sent op.send i st q = absurd (false≢true (sym q))
-plain sent op.unknown i st q = refl
+plain sendOp op.push i st q = refl
+plain sendOp op.load i st q = refl
+plain sendOp op.store i st q = refl
+plain sendOp op.add i st q = refl
+plain sendOp op.subtract i st q = refl
+plain sendOp op.multiply i st q = refl
+plain sendOp op.quotient i st q = refl
+plain sendOp op.remainder i st q = refl
+plain sendOp op.less i st q = refl
+plain sendOp op.equal i st q = refl
+plain sendOp op.not i st q = refl
+plain sendOp op.raise i st q = refl
+plain sendOp op.send i st q = absurd (false≢true (sym q))
+plain sendOp op.unknown i st q = refl
 
 sends-only : (o : Op) → isSend o ≡ true → o ≡ op.send
 unfolding isSend opRule
@@ -185,28 +184,28 @@ module _ (st : Stack) (f : Stack → Doing Ran) where
   after-paid s (refused r) = refl
   after-paid s (went a n) = after-told (s n)
 
-module _ (sent : Sent) (i : Instruction) (rest : List Instruction) (st : Stack) (n : Now) where
+module _ (sendOp : SendOp) (i : Instruction) (rest : List Instruction) (st : Stack) (n : Now) where
   plain-then : isSend (i .op) ≡ false
-      → perform sent st (i ∷ rest) n ≡ after (paidFor i st n) (onward (λ st′. perform sent st′ rest))
+      → perform sendOp st (i ∷ rest) n ≡ after (paidFor i st n) (onward (λ st′. perform sendOp st′ rest))
   unfolding paidFor instructed perform _>>_ _>>=_
-  plain-then q = rw (plain sent (i .op) i st q) (sym (after-after (pay n) (λ _. instruct noSend (i .op) i st) _))
+  plain-then q = rw (plain sendOp (i .op) i st q) (sym (after-after (pay n) (λ _. instruct noSend (i .op) i st) _))
 
   abbrev itsSend : Doing Bool
-  itsSend = sent (i .a) (unsigned 2 (i .b) % 256)
+  itsSend = sendOp (i .a) (sentTo i)
 
   send-then : isSend (i .op) ≡ true
-      → after (perform sent st (i ∷ rest) n) answer ≡ after ((pay >> itsSend) n) (unlessOver (perform sent st rest >>= answer))
+      → after (perform sendOp st (i ∷ rest) n) answer ≡ after ((pay >> itsSend) n) (unlessOver (perform sendOp st rest >>= answer))
   unfolding perform instruct _>>_
-  send-then q = rw (sends-only (i .op) q) (after-paid st (λ st′. perform sent st′ rest) itsSend (pay n))
+  send-then q = rw (sends-only (i .op) q) (after-paid st (λ st′. perform sendOp st′ rest) itsSend (pay n))
 
 -- what a block has still to perform: the instructions from k on; whether the rest of the owner's run is abandoned then
-unfoldable pub toAct : Sent → Bytes → ℕ → ℕ → Stack → Doing Bool
-toAct sent part count k st = perform sent st (codeIn part k (count - k)) >>= answer
+unfoldable pub toAct : SendOp → Bytes → ℕ → ℕ → Stack → Doing Bool
+toAct sendOp part count k st = perform sendOp st (codeIn part k (count - k)) >>= answer
 
 -- at the start it is the block, at the end nothing more
 pub act-start : (c : Chart) (sends owner : ℕ) (h : Header) (k : CodeBlock) (part : Bytes) (cells : List ℤ) (n : Now) → h ≡ headerOf c
     → part ≡ take (6 * k .count) (drop (instructionPlace h (k .start)) c)
-    → toAct (sentBy owner (send c sends)) part (k .count) 0 (stackOf cells 0) n ≡ acted c sends owner (blockOf k) n
+    → toAct (sendFrom owner (send c sends)) part (k .count) 0 (stackOf cells 0) n ≡ acted c sends owner (blockOf k) n
 unfolding toAct acted stackOf
 act-start c sends owner h k part cells n own cut =
     let all : k .count - 0 ≡ k .count = omega arith in
@@ -223,49 +222,49 @@ here part k = instructionFrom part (6 * k)
 abbrev later : Bytes → ℕ → ℕ → List Instruction
 later part count k = codeIn part (k + 1) (count - (k + 1))
 
-module _ (sent : Sent) (part : Bytes) (count k : ℕ) (st : Stack) (n : Now) where
-  pub act-end : count ≤ k → went false n ≡ toAct sent part count k st n
+module _ (sendOp : SendOp) (part : Bytes) (count k : ℕ) (st : Stack) (n : Now) where
+  pub act-end : count ≤ k → went false n ≡ toAct sendOp part count k st n
   unfolding toAct perform give isAbandoned _>>=_
   act-end h = rw (code-end part k count h)
 
   -- no send
   module _ (more : k < count) (plain : isSend (here part k .op) ≡ false) where
-    act-plain : after (after (paidFor (here part k) st n) (onward (λ st′. perform sent st′ (later part count k)))) answer
-        ≡ toAct sent part count k st n
+    act-plain : after (after (paidFor (here part k) st n) (onward (λ st′. perform sendOp st′ (later part count k)))) answer
+        ≡ toAct sendOp part count k st n
     unfolding toAct _>>=_
-    act-plain = rw (code-step part k count more, plain-then sent (here part k) (later part count k) st n plain)
+    act-plain = rw (code-step part k count more, plain-then sendOp (here part k) (later part count k) st n plain)
 
-    pub act-refused : {r : Refusal} → refused r ≡ paidFor (here part k) st n → refused r ≡ toAct sent part count k st n
+    pub act-refused : {r : Refusal} → refused r ≡ paidFor (here part k) st n → refused r ≡ toAct sendOp part count k st n
     act-refused e = rw (sym e) at act-plain
 
     pub act-goes : {st′ : Stack} {n′ : Now} → went (ran st′) n′ ≡ paidFor (here part k) st n
-        → toAct sent part count (k + 1) st′ n′ ≡ toAct sent part count k st n
+        → toAct sendOp part count (k + 1) st′ n′ ≡ toAct sendOp part count k st n
     unfolding toAct _>>=_ unlessAbandoned
     act-goes e = rw (sym e) at act-plain
 
 -- a send: the block is over, refused or abandoned, or the rest is still to perform
 module _ (c : Chart) (sends owner : ℕ) where
-  abbrev sentFrom : Sent
-  sentFrom = sentBy owner (send c sends)
+  abbrev itsSends : SendOp
+  itsSends = sendFrom owner (send c sends)
 
   module _ (part : Bytes) (count k : ℕ) (st : Stack) (n : Now) (more : k < count) (is : isSend (here part k .op) ≡ true) where
-    act-send : after (paidSend c sends owner (here part k) n) (unlessOver (toAct sentFrom part count (k + 1) st))
-        ≡ toAct sentFrom part count k st n
+    act-send : after (paidSend c sends owner (here part k) n) (unlessOver (toAct itsSends part count (k + 1) st))
+        ≡ toAct itsSends part count k st n
     unfolding paidSend toAct _>>=_
-    act-send = rw (code-step part k count more) (sym (send-then sentFrom (here part k) (later part count k) st n is))
+    act-send = rw (code-step part k count more) (sym (send-then itsSends (here part k) (later part count k) st n is))
 
     module _ (v : Verdict) (im : Image) (tr : List ℕ) (told : verdictOf v im tr ≡ paidSend c sends owner (here part k) n) where
       pub act-sent : {next : Counts} → v ≡ verdict.No next
-          → toAct sentFrom part count (k + 1) st (nowOf im tr next) ≡ toAct sentFrom part count k st n
+          → toAct itsSends part count (k + 1) st (nowOf im tr next) ≡ toAct itsSends part count k st n
       act-sent w = no-then v im tr _ told w refl ∙ act-send
 
-      pub act-over : (tagOf the-type v ≡ 0) ⊎ (tagOf the-type v ≡ 1) → verdictOf v im tr ≡ toAct sentFrom part count k st n
+      pub act-over : (tagOf the-type v ≡ 0) ⊎ (tagOf the-type v ≡ 1) → verdictOf v im tr ≡ toAct itsSends part count k st n
       act-over w = over-ends v im tr _ told w ∙ act-send
 
 -- a block's loop: what is still to perform is what was to perform at its start, and the cells hold the stack
-pub record Acting (sent : Sent) (part : Bytes) (count : ℕ) (im₀ : Image) (tr₀ : List ℕ) (k₀ : Counts) (at₀ : ℕ) (st₀ : Stack)
+pub record Acting (sendOp : SendOp) (part : Bytes) (count : ℕ) (im₀ : Image) (tr₀ : List ℕ) (k₀ : Counts) (at₀ : ℕ) (st₀ : Stack)
     (im : Image) (tr : List ℕ) (k : Counts) (at : ℕ) (cells : List ℤ) (taken : ℕ) : Type 0 where
-  pub same : toAct sent part count at (stackOf cells taken) (nowOf im tr k) ≡ toAct sent part count at₀ st₀ (nowOf im₀ tr₀ k₀)
+  pub same : toAct sendOp part count at (stackOf cells taken) (nowOf im tr k) ≡ toAct sendOp part count at₀ st₀ (nowOf im₀ tr₀ k₀)
   pub held : Cells cells taken
   pub units : k .units ≤ k₀ .units
   pub image : length im ≡ length im₀
@@ -274,13 +273,13 @@ pub record Acting (sent : Sent) (part : Bytes) (count : ℕ) (im₀ : Image) (tr
 -- after an instruction: what a send leaves, and what another leaves, each as the code has it then
 module _ {part : Bytes} {count : ℕ} {im₀ : Image} {tr₀ : List ℕ} {k₀ : Counts} {at₀ : ℕ} {st₀ : Stack}
     {im : Image} {tr : List ℕ} {k : Counts} {at : ℕ} {cells : List ℤ} {taken : ℕ} (c : Chart) (sends owner : ℕ)
-    (acting : Acting (sentFrom c sends owner) part count im₀ tr₀ k₀ at₀ st₀ im tr k at cells taken)
+    (acting : Acting (itsSends c sends owner) part count im₀ tr₀ k₀ at₀ st₀ im tr k at cells taken)
     (more : at < count) {b : Bool} (sending : b ≡ isSend (here part at .op)) (im″ : Image) (tr″ : List ℕ) where
   pub acting-sent : b ≡ true → {v : Verdict} → verdictOf v im″ tr″ ≡ paidSend c sends owner (here part at) (nowOf im tr k)
       → {k″ : Counts} → v ≡ verdict.No k″ → length im″ ≡ length im → length tr″ ≡ length tr
       → {im′ : Image} {tr′ : List ℕ} {k′ : Counts} {cells′ : List ℤ} {taken′ : ℕ}
       → im′ ≡ im″ → tr′ ≡ tr″ → k′ ≡ k″ → cells′ ≡ cells → taken′ ≡ taken
-      → Acting (sentFrom c sends owner) part count im₀ tr₀ k₀ at₀ st₀ im′ tr′ k′ (at + 1) cells′ taken′
+      → Acting (itsSends c sends owner) part count im₀ tr₀ k₀ at₀ st₀ im′ tr′ k′ (at + 1) cells′ taken′
   acting-sent q {v} told w li lt i t u x y =
       let n = nowOf im tr k in
       let less = no-keeps n im″ tr″ (paidSend-falls c sends owner (here part at)) told w in
@@ -298,7 +297,7 @@ module _ {part : Bytes} {count : ℕ} {im₀ : Image} {tr₀ : List ℕ} {k₀ :
       → length cells″ ≡ length cells → length im″ ≡ length im → length tr″ ≡ length tr
       → {im′ : Image} {tr′ : List ℕ} {k′ : Counts} {cells′ : List ℤ} {taken′ : ℕ}
       → im′ ≡ im″ → tr′ ≡ tr″ → k′ ≡ l .counts → cells′ ≡ cells″ → taken′ ≡ l .taken
-      → Acting (sentFrom c sends owner) part count im₀ tr₀ k₀ at₀ st₀ im′ tr′ k′ (at + 1) cells′ taken′
+      → Acting (itsSends c sends owner) part count im₀ tr₀ k₀ at₀ st₀ im′ tr′ k′ (at + 1) cells′ taken′
   acting-goes q cells″ told {l} w lc li lt i t u x y =
       let st = stackOf cells taken in
       let n = nowOf im tr k in
@@ -319,7 +318,7 @@ module _ (c : Chart) (sends owner t : ℕ) (n : Now) where
   full-path m z = rw z
 
   within-path : (m : ℕ) → (m ≡ 0 → ⊥)
-      → after (passing c sends owner t n) (λ b. give (if b then cutOff else passed)) ≡ passingWithin c sends m owner t n
+      → after (passing c sends owner t n) (λ b. give (if b then ownerGone else passed)) ≡ passingWithin c sends m owner t n
   unfolding passingWithin _>>=_
   within-path zero h = absurd (h refl)
   within-path (suc m) h = refl
@@ -327,7 +326,7 @@ module _ (c : Chart) (sends owner t : ℕ) (n : Now) where
   module _ (m : ℕ) (some : m ≡ 0 → ⊥) {v : Verdict} (im : Image) (tr : List ℕ)
       (told : verdictOf v im tr ≡ passing c sends owner t n) where
     pub pass-came : {x : Verdict} → v ≡ x
-        → after (verdictOf x im tr) (λ b. give (if b then cutOff else passed)) ≡ passingWithin c sends m owner t n
+        → after (verdictOf x im tr) (λ b. give (if b then ownerGone else passed)) ≡ passingWithin c sends m owner t n
     pass-came w = rw (sym told, w) at (within-path m some)
 
 -- a segment is tried: it fails, or it passes and goes on

@@ -9,10 +9,10 @@ use Rattle.rules.specs.Chart.{State, Segment, Chart, Block, Instruction, condit
 use Rattle.rules.specs.Image.{Image}
 use Rattle.rules.specs.Doing.{Now, Doing, _>>=_}
 use Rattle.rules.specs.Block.{Stack}
-use Rattle.rules.specs.Search.{Found, reached, nowhere, ended, cut}
+use Rattle.rules.specs.Search.{Found, reached, nowhere, ended, runAbandoned}
 use Rattle.rules.proofs.Closing.{noSend-has, instruct-has}
 use Rattle.rules.proofs.Keeping.{Keeps}
-use Rattle.rules.proofs.Spending.{both-went, Spends, spends, give-spends, refuse-spends, bind-spends, then-spends, if-spends, pay-then-strict, note-spends, sentBy-spends, perform-spends, passes-spends, search-spends, fire-spends, send-spends}
+use Rattle.rules.proofs.Spending.{both-went, Spends, spends, give-spends, refuse-spends, bind-spends, then-spends, if-spends, pay-then-strict, note-spends, sendFrom-spends, perform-spends, passes-spends, search-spends, fire-spends, send-spends}
 use Rattle.doing.specs.Held.{nowOf, outcomeOf, verdictOf}
 use Rattle.doing.specs.declared.Counts.{Counts}
 use Rattle.doing.specs.declared.Done.{Done}
@@ -46,11 +46,11 @@ module _ (c : Chart) where
   module _ (n : ℕ) where
     pub paidSend-falls : (owner : State) (i : Instruction) → Falls (paidSend c n owner i)
     unfolding paidSend
-    paidSend-falls owner i = record { at = pay-then-strict (sentBy-spends owner (send-spends c n) _ _) }
+    paidSend-falls owner i = record { at = pay-then-strict (sendFrom-spends owner (send-spends c n) _ _) }
 
     pub acted-spends : (owner : State) (k : Block) → Spends (acted c n owner k)
     unfolding acted
-    acted-spends owner k = bind-spends (perform-spends (sentBy-spends owner (send-spends c n)) _ _) (λ r. give-spends _)
+    acted-spends owner k = bind-spends (perform-spends (sendFrom-spends owner (send-spends c n)) _ _) (λ r. give-spends _)
 
     passing-spends : (owner : State) (t : Segment) → Spends (passing c n owner t)
     unfolding passing
@@ -72,7 +72,7 @@ module _ (c : Chart) where
       ending-spends p (reached s path) = then-spends (fire-spends c p s path) (give-spends true)
       ending-spends p nowhere = give-spends false
       ending-spends p ended = give-spends false
-      ending-spends p cut = give-spends true
+      ending-spends p runAbandoned = give-spends true
 
       pub followed-spends : (p : State) (ts : List Segment) → Spends (followed c n e p ts)
       unfolding followed

@@ -48,7 +48,7 @@ pub enum Tried {
     Refused(Refusal),
     Failed(Counts), // it does not pass
     Passed(Counts), // and its condition action is done
-    Cut(Counts), // the owner is gone
+    Abandoned(Counts), // the owner is gone
 }
 
 // A target state, and how long the path to it is.
@@ -64,7 +64,7 @@ pub enum Found {
     Reached(Way),
     Nowhere(Counts), // no segment led to a state
     Ended(Counts), // at a junction without segments
-    Cut(Counts), // the owner is gone
+    Abandoned(Counts), // the owner is gone
 }
 
 // Whether the owner of a block is not there any more after a send.
@@ -224,7 +224,7 @@ fn attempt(
     let acted = pass(chart, h, image, trace, left, sends, source, t);
     match acted {
         Verdict::Refused(why) => Tried::Refused(why),
-        Verdict::Yes(after) => Tried::Cut(after),
+        Verdict::Yes(after) => Tried::Abandoned(after),
         Verdict::No(after) => Tried::Passed(after),
     }
 }
@@ -267,7 +267,7 @@ fn search(
             );
             match tried {
                 Tried::Refused(why) => break 'search Found::Refused(why),
-                Tried::Cut(after) => break 'search Found::Cut(after),
+                Tried::Abandoned(after) => break 'search Found::Abandoned(after),
                 Tried::Failed(after) => {
                     left = after;
                     next = segments::after(chart, h, t);
@@ -283,7 +283,12 @@ fn search(
                             counts: left,
                         });
                     }
-                    next = segments::own(chart, h, segments::end_junction(chart, h, t), 0);
+                    next = segments::from_junction(
+                        chart,
+                        h,
+                        segments::end_junction(chart, h, t),
+                        0,
+                    );
                     if let Next::End = next {
                         break 'search Found::Ended(left);
                     }
@@ -334,7 +339,7 @@ fn edge(
         Found::Refused(why) => Verdict::Refused(why),
         Found::Nowhere(left) => Verdict::No(left),
         Found::Ended(left) => Verdict::No(left),
-        Found::Cut(left) => Verdict::Yes(left),
+        Found::Abandoned(left) => Verdict::Yes(left),
         Found::Reached(way) => {
             let left = way.counts;
             let fired = firing::fire(

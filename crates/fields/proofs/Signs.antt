@@ -12,15 +12,16 @@ use borrow.Author.Tests.{ltb-true, ltb-false, lt-ltb, le-ltb}
 use mir.Syntax.{Width, w8, w16, w32, w64, w128}
 use mir.Val.{Fits, SFits, bits, hbits, bytes, toZ, ofZ}
 use mir.ValLaws.{toZ-ofZ, toZ-pos, pow-bits, half-full}
+use Rattle.rules.specs.Lists.{if_then_else_}
 use Rattle.rules.specs.Bytes.{signed, unsigned}
 
 -- `signed` in each half of the numbers of w bytes
 pub signed-low : (w n : ℕ) → n < 2 ^ (8 * w - 1) → signed w n ≡ pos n
-unfolding signed
+unfolding signed if_then_else_
 signed-low w n h = rw (lt-ltb n (2 ^ (8 * w - 1)) h)
 
 pub signed-high : (w n : ℕ) → 2 ^ (8 * w - 1) ≤ n → n < 2 ^ (8 * w) → signed w n ≡ negsuc (2 ^ (8 * w) - suc n)
-unfolding signed
+unfolding signed if_then_else_
 signed-high w n h l = rw (le-ltb n (2 ^ (8 * w - 1)) h, lt-ltb n (2 ^ (8 * w)) l)
 
 -- `unsigned` on each side of zero

@@ -9,7 +9,7 @@ use borrow.Author.Tests.{eq-eqb, ne-eqb}
 use Rattle.rules.specs.Lists.{if_then_else_, range, keep, _else_}
 use Rattle.rules.specs.Chart.{Chart, State, parent, isOneOf, children}
 use Rattle.rules.specs.Doing.{Now, Outcome, refused, went, Done, after, done, give, _>>=_, _>>_, look, each}
-use Rattle.rules.specs.Fire.{entered, enterEach, enter}
+use Rattle.rules.specs.Fire.{toEnter, enterEach, enter}
 use Rattle.rules.specs.declared.headers.Header.{Header}
 use Rattle.chart.specs.Places.{headerOf}
 use Rattle.chart.proofs.Ranges.{keep-end, keep-pass, keep-skip}
@@ -74,9 +74,9 @@ done-after (went a n) = refl
 module _ (c : Chart) (f : State → Done) (target s : State) (n : Now) where
   pub enter-chosen : isOneOf c s ≡ true → {k : State} → k ≡ chosenChild c s target (n .image) → {all : Outcome (Unit {0})}
       → all ≡ f k n → all ≡ enterEach c f target s n
-  unfolding enterEach entered chosenChild look _>>=_ _>>_ each if_then_else_
+  unfolding enterEach toEnter chosenChild look _>>=_ _>>_ each if_then_else_
   enter-chosen b e told = rw (b, sym e) (told ∙ sym (done-after (f _ n)))
 
   pub enter-each : isOneOf c s ≡ false → {all : Outcome (Unit {0})} → all ≡ each f (children c s) n → all ≡ enterEach c f target s n
-  unfolding enterEach entered look _>>=_ if_then_else_
+  unfolding enterEach toEnter look _>>=_ if_then_else_
   enter-each b told = rw b told

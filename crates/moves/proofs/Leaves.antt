@@ -10,7 +10,7 @@ use Rattle.rules.specs.Lists.{if_then_else_, downFrom, keep}
 use Rattle.rules.specs.Chart.{Chart, State, parent, keepsHistory, childrenDown}
 use Rattle.rules.specs.Image.{isActive}
 use Rattle.rules.specs.Doing.{Now, Outcome, Done, done, give, _>>_, change, pay, each, whenActive}
-use Rattle.rules.specs.Fire.{leaveEach, noteLeft, leave}
+use Rattle.rules.specs.Fire.{leaveEach, parentRecords, leave}
 use Rattle.rules.specs.declared.headers.Header.{Header}
 use Rattle.chart.specs.Places.{headerOf}
 use Rattle.doing.proofs.Laws.{each-went}
@@ -18,11 +18,11 @@ use Rattle.moves.specs.Steps.{remembered, departing}
 use Rattle.moves.proofs.Follows.{less-one}
 
 -- a history parent records s or not: the image is the one remembered
-pub noted-left : (c : Chart) (s : State) (n : Now) → noteLeft c s n ≡ change (remembered c s) n
-unfolding noteLeft remembered if_then_else_ change done give
+pub noted-left : (c : Chart) (s : State) (n : Now) → parentRecords c s n ≡ change (remembered c s) n
+unfolding parentRecords remembered if_then_else_ change done give
 noted-left c s n = by (keepsHistory c (parent c s)) refl
   where
-    by : (t : Bool) → keepsHistory c (parent c s) ≡ t → noteLeft c s n ≡ change (remembered c s) n
+    by : (t : Bool) → keepsHistory c (parent c s) ≡ t → parentRecords c s n ≡ change (remembered c s) n
     by true e = rw e
     by false e = rw e
 

@@ -10,34 +10,34 @@ use lib.ListN.{length, take, drop, getD, set, drop-of-length-le}
 use lib.Seq.{take-suc-set, append-snoc, length-take-le, getD-take}
 use borrow.Author.Tests.{eq-eqb, ne-eqb}
 use Rattle.rules.specs.Lists.{if_then_else_, every, keep, first}
-use Rattle.rules.specs.Chart.{Chart, State, Segment, deepest, parent, endsOnState, line, over}
+use Rattle.rules.specs.Chart.{Chart, State, Segment, deepest, parent, endsOnState, lineage, over}
 use Rattle.rules.specs.Fire.{junctionParents, common}
 use Rattle.moves.specs.Steps.{overEnd}
 use Rattle.moves.proofs.Follows.{less-one, next-at}
 
 -- a line by its lowest state: the root, another, the last that may be
 module _ (c : Chart) (at : State) where
-  line-of-root : (left : ℕ) → at ≡ 0 → line c left at ≡ at ∷ []
-  unfolding line if_then_else_
+  line-of-root : (left : ℕ) → at ≡ 0 → lineage c left at ≡ at ∷ []
+  unfolding lineage if_then_else_
   line-of-root zero q = refl
   line-of-root (suc n) q = rw (eq-eqb at 0 q)
 
-  line-of-child : (left : ℕ) → 0 < left → (at ≡ 0 → ⊥) → line c left at ≡ at ∷ line c (left - 1) (parent c at)
-  unfolding line if_then_else_
+  line-of-child : (left : ℕ) → 0 < left → (at ≡ 0 → ⊥) → lineage c left at ≡ at ∷ lineage c (left - 1) (parent c at)
+  unfolding lineage if_then_else_
   line-of-child zero h d = absurd (omega arith)
   line-of-child (suc n) h d = rw (ne-eqb at 0 d, less-one)
 
-  line-of-last : (left : ℕ) → left ≡ 0 → line c left at ≡ at ∷ []
-  unfolding line
+  line-of-last : (left : ℕ) → left ≡ 0 → lineage c left at ≡ at ∷ []
+  unfolding lineage
   line-of-last left q = rw q
 
 -- the first n places are written, and at is to be written next
 module _ (c : Chart) (at : State) (top n : ℕ) (places : List ℕ) {whole : List State} (space : n < length places)
-    (still : take n places ++ line c (top - n) at ≡ whole) where
+    (still : take n places ++ lineage c (top - n) at ≡ whole) where
   written : take (n + 1) (set places n at) ≡ take n places ++ (at ∷ [])
   written = rw (add-one n, take-suc-set places n at space)
 
-  all-written : line c (top - n) at ≡ at ∷ [] → take (n + 1) (set places n at) ≡ whole
+  all-written : lineage c (top - n) at ≡ at ∷ [] → take (n + 1) (set places n at) ≡ whole
   all-written e = written ∙ ap (λ l. take n places ++ l) (sym e) ∙ still
 
   pub root-written : at ≡ 0 → take (n + 1) (set places n at) ≡ whole
@@ -47,7 +47,7 @@ module _ (c : Chart) (at : State) (top n : ℕ) (places : List ℕ) {whole : Lis
   last-written h = all-written (line-of-last c at (top - n) (omega arith))
 
   pub one-written : {next : State} → n < top → (at ≡ 0 → ⊥) → next ≡ parent c at
-      → take (n + 1) (set places n at) ++ line c (top - (n + 1)) next ≡ whole
+      → take (n + 1) (set places n at) ++ lineage c (top - (n + 1)) next ≡ whole
   one-written h d q =
       let less : top - (n + 1) ≡ top - n - 1 = omega arith in
       rw (written, less, q, append-snoc, ← line-of-child c at (top - n) (omega arith) d) still
@@ -70,7 +70,7 @@ module _ (c : Chart) (a : State) where
 abbrev pub overAll : Chart → State → List Segment → State → Bool
 overAll c target path s = over c s target && every (over c s) (junctionParents c path)
 
-pub common-of : (c : Chart) (source target : State) (path : List Segment) {above : List State} → above ≡ line c deepest source
+pub common-of : (c : Chart) (source target : State) (path : List Segment) {above : List State} → above ≡ lineage c deepest source
     → common c source target path ≡ first (overAll c target path) above
 unfolding common
 common-of c source target path e = rw e

@@ -5,7 +5,7 @@ use Rattle.rules.specs.Chart.{State, Segment, Chart, parent, initial, entry, ex
 use Rattle.rules.specs.Image.{Image, recorded, activate, deactivate, recordChild}
 use Rattle.rules.specs.Doing.{Done, _>>=_, _>>_, change, pay, stateEntered, stateLeft, note}
 use Rattle.rules.specs.Block.{action}
-use Rattle.rules.specs.Fire.{noteLeft, onTheWay}
+use Rattle.rules.specs.Fire.{parentRecords, onTheWay}
 
 module _ (c : Chart) where
   -- the image once a history parent has recorded s
@@ -16,7 +16,7 @@ module _ (c : Chart) where
   unfoldable pub departing : State → Done
   departing s = do
     action c (exit c s)
-    noteLeft c s
+    parentRecords c s
     change (λ im. deactivate im s)
     note stateLeft s
 

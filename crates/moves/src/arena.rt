@@ -19,9 +19,9 @@ ghost use Rattle.moves.specs.Steps.{overEnd};
 const PLACES: usize = Header::MOST_STATES as usize;
 
 // A state, its parent and so on, the root last; how many they are.
-fn line(chart: &[u8], s: StateNo, places: &mut [u8]) -> usize
+fn lineage(chart: &[u8], s: StateNo, places: &mut [u8]) -> usize
     requires { ⌜ length (now places) ≡ fieldsOf.mostStates ⌝ }
-    ensures { λ r. ⌜ (r ≤ rules.levels) × (take r (now (places .exit)) ≡ fieldsOf.line (now (chart .entry)) fieldsOf.deepest (s .0)) ⌝ }
+    ensures { λ r. ⌜ (r ≤ rules.levels) × (take r (now (places .exit)) ≡ fieldsOf.lineage (now (chart .entry)) fieldsOf.deepest (s .0)) ⌝ }
 {
     let mut at = s;
     let mut n: usize = 0;
@@ -67,7 +67,7 @@ fn common(chart: &[u8], h: Header, source: StateNo, target: StateNo, path: &[u16
     ensures { λ r. ⌜ r .0 ≡ rules.common (now (chart .entry)) (source .0) (target .0) (now (path .entry)) ⌝ }
 {
     let mut above = [0u8; PLACES];
-    let n = line(chart, source, &mut above);
+    let n = lineage(chart, source, &mut above);
     for i in 0..n {
         let s = StateNo(above[i]);
         if tree::over(chart, s, target) {

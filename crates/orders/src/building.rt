@@ -7,7 +7,7 @@ use rules::numbers::JunctionNo;
 use rules::numbers::SegmentNo;
 use rules::numbers::StateNo;
 
-pub const LENGTH: usize = 358;
+pub(crate) const LENGTH: usize = 358;
 
 const ONE_OF: u8 = 1;
 
@@ -147,7 +147,7 @@ fn states(chart: &mut [u8]) {
     lower_actions(chart);
 }
 
-pub fn make(chart: &mut [u8]) {
+pub(crate) fn make(chart: &mut [u8]) {
     header(chart, counts());
     states(chart);
     junction(chart);

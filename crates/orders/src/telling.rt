@@ -4,15 +4,15 @@ use image::history;
 use libc::STDOUT_FILENO;
 use rules::numbers::StateNo;
 
-pub fn text(words: &[u8]) {
+pub(crate) fn text(words: &[u8]) {
     io::write_all(STDOUT_FILENO, words);
 }
 
-pub fn number(n: u64) {
+pub(crate) fn number(n: u64) {
     io::print_decimal(STDOUT_FILENO, n);
 }
 
-pub fn refused(n: u8) {
+pub(crate) fn refused(n: u8) {
     text(b": refused ");
     number(n as u64);
     text(b"\n");
@@ -39,7 +39,7 @@ fn all_items(items: &[u32]) {
     }
 }
 
-pub fn went(units: u32, items: &[u32]) {
+pub(crate) fn went(units: u32, items: &[u32]) {
     text(b": ");
     number(units as u64);
     text(b" units:");
@@ -77,7 +77,7 @@ fn all_active(image: &[u8]) {
 }
 
 // The active states, and the children that the states above others have recorded.
-pub fn states(image: &[u8]) {
+pub(crate) fn states(image: &[u8]) {
     text(b"  active");
     all_active(image);
     text(b"; recorded");

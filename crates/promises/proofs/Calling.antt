@@ -13,7 +13,7 @@ use Rattle.rules.specs.Image.{accepted, freshImage}
 use Rattle.rules.specs.Doing.{Refusal, because, Now, Outcome, refused, went, mostUnits}
 use Rattle.rules.specs.Run.{step}
 use Rattle.rules.specs.Bound.{boundRefusal, bound}
-use Rattle.rules.specs.Calls.{Board, Answer, part, withPart, partRefusal, numberOnly, freshTested, freshCall, boundTested, boundCall, stepRefusal, begin, stepAnswer, stepTested, stepCall}
+use Rattle.rules.specs.Calls.{Board, Answer, part, withPart, partRefusal, numberOnly, unlessRefused, freshCall, boundCall, stepRefusal, begin, stepAnswer, stepCall}
 use Rattle.rules.proofs.Laws.{unless-zero, else-zero}
 use Rattle.rules.proofs.Taken.{right}
 use Rattle.rules.proofs.Triple.{Ended}
@@ -31,8 +31,9 @@ pub record Lift (c : Chart) (k : ℕ) (board : Board) : Type 0 where
 module _ (c : Chart) (board : Board) (k : ℕ) where
   module _ (P : Answer → Type 0) (refusing : (r : ℕ) → P (numberOnly (because (suc r)) board []))
       (making : chartRefusal c ≡ 0 → Has board k → P (numberOnly (because 0) (withPart board k (freshImage c)) [])) where
-    fresh-by : (r : ℕ) → (chartRefusal c else partRefusal board k) ≡ r → P (freshTested r c board k)
-    unfolding freshTested
+    fresh-by : (r : ℕ) → (chartRefusal c else partRefusal board k) ≡ r
+        → P (unlessRefused r board [] (numberOnly (because 0) (withPart board k (freshImage c)) []))
+    unfolding unlessRefused
     fresh-by zero q = let (a, b) = else-zero (chartRefusal c) (partRefusal board k) q in making a (part-has board k b)
     fresh-by (suc r) q = refusing r
 
@@ -63,8 +64,9 @@ module _ (c : Chart) (board : Board) (k : ℕ) where
       step-goes b l (refused r) q = stopping b r q
       step-goes b l (went u n) q = going b l u n q
 
-      step-by : (r : ℕ) → stepRefusal c board k e allowance ≡ r → P (stepTested r c board trace k e allowance)
-      unfolding stepTested
+      step-by : (r : ℕ) → stepRefusal c board k e allowance ≡ r
+          → P (unlessRefused r board trace (stepAnswer board trace k allowance (step c e (begin (part board k) trace allowance))))
+      unfolding unlessRefused
       step-by zero q = let (b, l) = begun q in step-goes b l (step c e (begin (part board k) trace allowance)) refl
       step-by (suc r) q = refusing r q
 
@@ -72,11 +74,15 @@ module _ (c : Chart) (board : Board) (k : ℕ) where
       unfolding stepCall
       step-ends = step-by (stepRefusal c board k e allowance) refl
 
+-- the answer with a chart's bound
+abbrev pub boundGiven : Chart → Answer
+boundGiven c = record { refusal = because 0; units = 0; items = 0; bound = bound c; board = []; trace = [] }
+
 module _ (c : Chart) (P : Answer → Type 0)
     (refusing : (r : ℕ) → (chartRefusal c else boundRefusal c) ≡ suc r → P (numberOnly (because (suc r)) [] []))
-    (giving : chartRefusal c ≡ 0 → boundRefusal c ≡ 0 → P (boundTested 0 c)) where
-  bound-by : (r : ℕ) → (chartRefusal c else boundRefusal c) ≡ r → P (boundTested r c)
-  unfolding boundTested
+    (giving : chartRefusal c ≡ 0 → boundRefusal c ≡ 0 → P (boundGiven c)) where
+  bound-by : (r : ℕ) → (chartRefusal c else boundRefusal c) ≡ r → P (unlessRefused r [] [] (boundGiven c))
+  unfolding unlessRefused
   bound-by zero q = let (a, b) = else-zero (chartRefusal c) (boundRefusal c) q in giving a b
   bound-by (suc r) q = refusing r q
 

@@ -7,7 +7,7 @@ use native.Mathlib.Omega.{arith}
 use Rattle.rules.specs.Bytes.{Bytes}
 use Rattle.rules.specs.Chart.{Chart}
 use Rattle.rules.specs.Doing.{Refusal, because}
-use Rattle.rules.specs.Calls.{Board, numberOnly, freshCall, boundTested, boundCall, stepAnswer, stepCall, packed}
+use Rattle.rules.specs.Calls.{Board, numberOnly, freshCall, boundCall, stepAnswer, stepCall, packed}
 use Rattle.promises.specs.Many.{Call, Goes, afterCall}
 use Rattle.promises.proofs.Writing.{Wrote, nothing, image, call-writes}
 use Rattle.promises.proofs.Calling.{fresh-ends, step-ends, bound-ends}
@@ -20,7 +20,7 @@ fresh-refused c board k =
     (λ z h d. absurd (d refl))
 
 pub bound-refused : (c : Chart) → (boundCall c .refusal .number ≡ 0 → ⊥) → boundCall c ≡ numberOnly (boundCall c .refusal) [] []
-unfolding numberOnly because boundTested
+unfolding numberOnly because
 bound-refused c =
     bound-ends c (λ a. (a .refusal .number ≡ 0 → ⊥) → a ≡ numberOnly (a .refusal) [] []) (λ r q d. refl)
     (λ z q d. absurd (d refl))

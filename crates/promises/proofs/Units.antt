@@ -10,7 +10,7 @@ use Rattle.rules.specs.Chart.{Chart}
 use Rattle.rules.specs.Doing.{because, Outcome, refused, went, mostUnits}
 use Rattle.rules.specs.Run.{step}
 use Rattle.rules.specs.Bound.{boundRefusal, bound}
-use Rattle.rules.specs.Calls.{Board, part, numberOnly, boundTested, boundCall, stepRefusal, begin, stepAnswer, stepTested, stepCall}
+use Rattle.rules.specs.Calls.{Board, Answer, part, numberOnly, unlessRefused, boundCall, stepRefusal, begin, stepAnswer, stepCall}
 use Rattle.rules.proofs.Taken.{right}
 use Rattle.rules.proofs.Steady.{Same, steady-step}
 use Rattle.rules.proofs.Bounded.{Bounded, bounded}
@@ -19,7 +19,7 @@ use Rattle.promises.proofs.Numbers.{tests-most}
 
 -- what the bound call answers
 given : (c : Chart) → boundCall c .refusal .number ≡ 0 → (boundRefusal c ≡ 0) × (boundCall c .bound ≡ bound c)
-unfolding numberOnly because boundTested
+unfolding numberOnly because
 given c =
     bound-ends c (λ a. a .refusal .number ≡ 0 → (boundRefusal c ≡ 0) × (a .bound ≡ bound c)) (λ r q e. absurd (omega arith))
     (λ z q e. (q, refl))
@@ -59,15 +59,20 @@ module _ (c : Chart) (board : Board) (trace : Bytes) (k e allowance extra : ℕ)
       let z : allowance + extra - (n .units + extra) ≡ allowance - n .units = omega arith in
       rw (q, z)
 
-  same-tested : (r : ℕ) → (stepTested r c board trace k e allowance .refusal .number ≡ 16 → ⊥)
-      → stepTested r c board trace k e (allowance + extra) ≡ stepTested r c board trace k e allowance
-  unfolding stepTested begin
-  same-tested zero d =
-      same-answer (step c e (begin (part board k) trace allowance)) (step c e (begin (part board k) trace (allowance + extra)))
-      (steady-step c e .at extra (begin (part board k) trace allowance)) d
-  same-tested (suc r) d = refl
+  -- how the step goes that is allowed u units
+  abbrev stepped : ℕ → Outcome (Unit {0})
+  stepped u = step c e (begin (part board k) trace u)
+
+  abbrev answered : ℕ → ℕ → Answer
+  answered r u = unlessRefused r board trace (stepAnswer board trace k u (stepped u))
+
+  same-answered : (r : ℕ) → (answered r allowance .refusal .number ≡ 16 → ⊥) → answered r (allowance + extra) ≡ answered r allowance
+  unfolding unlessRefused begin
+  same-answered zero d =
+      same-answer (stepped allowance) (stepped (allowance + extra)) (steady-step c e .at extra (begin (part board k) trace allowance)) d
+  same-answered (suc r) d = refl
 
   pub more-units : allowance + extra ≤ mostUnits → (stepCall c board trace k e allowance .refusal .number ≡ 16 → ⊥)
       → stepCall c board trace k e (allowance + extra) ≡ stepCall c board trace k e allowance
   unfolding stepCall
-  more-units l d = rw (same-tests l) (same-tested (stepRefusal c board k e allowance) d)
+  more-units l d = rw (same-tests l) (same-answered (stepRefusal c board k e allowance) d)

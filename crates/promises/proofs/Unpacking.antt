@@ -9,7 +9,7 @@ use Rattle.rules.specs.Bytes.{Bytes}
 use Rattle.rules.specs.Chart.{Chart}
 use Rattle.rules.specs.Doing.{because, Now, went, mostUnits}
 use Rattle.rules.specs.Run.{step}
-use Rattle.rules.specs.Calls.{Board, part, numberOnly, freshCall, boundTested, boundCall, begin, stepAnswer, stepCall, packed}
+use Rattle.rules.specs.Calls.{Board, part, numberOnly, freshCall, boundCall, begin, stepAnswer, stepCall, packed}
 use Rattle.rules.specs.Bound.{bound, boundRefusal}
 use Rattle.rules.proofs.Laws.{unless-zero}
 use Rattle.rules.proofs.Refusing.{step-refuses}
@@ -56,13 +56,13 @@ fresh-unpacked c board k =
 -- what `afraulenc_unpack_bound` takes out
 pub bound-unpacked : (c : Chart)
     → (packed (boundCall c) % 256 ≡ boundCall c .refusal .number) × (packed (boundCall c) / 256 ≡ boundCall c .bound)
-unfolding packed numberOnly because boundTested
+unfolding packed numberOnly because
 bound-unpacked c =
     bound-ends c (λ a. (packed a % 256 ≡ a .refusal .number) × (packed a / 256 ≡ a .bound))
     (λ r q. (omega (arith, bound-tests-most c), omega (arith, bound-tests-most c))) (λ z q. (omega arith, omega arith))
 
 pub bound-fits : (c : Chart) → boundCall c .bound ≤ mostUnits
-unfolding numberOnly boundTested boundRefusal
+unfolding numberOnly boundRefusal
 bound-fits c =
     bound-ends c (λ a. a .bound ≤ mostUnits) (λ r q. omega arith)
     (λ z q.

@@ -8,6 +8,7 @@ use native.Mathlib.Nat.{add-div-right, div-eq-sub-div, div-div-eq-div-mul, le-di
 use native.Mathlib.Omega.{arith}
 use lib.Pow.{pow-pos}
 use borrow.Author.Tests.{ne-eqb, eqb-true, eqb-false}
+use Rattle.rules.specs.Lists.{if_then_else_}
 use Rattle.rules.specs.Bytes.{bit, bitOn, bitOff}
 use Rattle.rules.proofs.Laws.{two}
 
@@ -42,17 +43,21 @@ off-other b k j e d =
     rw back at (sym (on-other (b - 2 ^ k) k j (off-here b k e) d))
 
 pub on-bit-same : (b k : ℕ) → bit (bitOn b k) k ≡ true
+unfolding if_then_else_
 on-bit-same b k =
     elim (two (bit b k)) [ inl e ↦ rw e e | inr e ↦ rw (e, on-here b k (eqb-false _ _ e)) ]
 
 pub on-bit-other : (b k j : ℕ) → (j ≡ k → ⊥) → bit (bitOn b k) j ≡ bit b j
+unfolding if_then_else_
 on-bit-other b k j d =
     elim (two (bit b k)) [ inl e ↦ rw e | inr e ↦ rw (e, on-other b k j (eqb-false _ _ e) d) ]
 
 pub off-bit-same : (b k : ℕ) → bit (bitOff b k) k ≡ false
+unfolding if_then_else_
 off-bit-same b k =
     elim (two (bit b k)) [ inl e ↦ rw e (ne-eqb _ _ (off-here b k (eqb-true _ _ e))) | inr e ↦ rw e e ]
 
 pub off-bit-other : (b k j : ℕ) → (j ≡ k → ⊥) → bit (bitOff b k) j ≡ bit b j
+unfolding if_then_else_
 off-bit-other b k j d =
     elim (two (bit b k)) [ inl e ↦ rw (e, off-other b k j (eqb-true _ _ e) d) | inr e ↦ rw e ]

@@ -4,20 +4,19 @@ use mathlib.Core.Path.{_≡_, refl}
 use mathlib.Core.Logic.{inl, inr}
 use mathlib.Core.Bool.{Bool, true, false}
 use mathlib.Core.List.{List, [], _∷_, map, List·Memᴰ·head, List·Memᴰ·tail}
-use Prim.Native.Nat.{ℕ, _%_, _<_}
+use Prim.Native.Nat.{ℕ, _<_}
 use native.Mathlib.Omega.{arith}
 use lib.Dec.{ltb}
 use lib.ListN.{length}
 use lib.IntN.{ℤ}
 use borrow.Author.Tests.{ltb-true}
-use Rattle.rules.specs.Bytes.{unsigned}
 use Rattle.rules.specs.Lists.{if_then_else_, upFrom, every}
 use Rattle.rules.specs.Chart as C
 use Rattle.rules.specs.Chart.{State, Chart, Block, Op, Instruction, states, variables, instruction, code}
 use Rattle.rules.specs.Accept.{opRule, isSend, operandsRight}
 use Rattle.rules.specs.Image.{Image, isActive, setVariable}
 use Rattle.rules.specs.Doing.{Doing}
-use Rattle.rules.specs.Block.{Stack, Ran, ran, abandoned, unlessAbandoned, top, binary, checked, divided, gone, Sending, Sent, noSend, sentBy, instruct, perform, action}
+use Rattle.rules.specs.Block.{Stack, Ran, ran, abandoned, unlessAbandoned, top, binary, checked, divided, gone, Delivery, SendOp, noSend, sendFrom, sentTo, instruct, perform, action}
 use Rattle.rules.proofs.Laws.{two, both, and-left, clash}
 use Rattle.rules.proofs.Members.{Mem}
 use Rattle.rules.proofs.Distinct.{up-length}
@@ -38,7 +37,7 @@ After I F false = I
 
 -- a send that costs nothing, since it is only met where no units are promised
 abbrev pub Sends : {A : Type 0} → Chart → Claim → (ℕ → State → Doing A) → (A → Claim) → Type 0
-Sends c I sent Q = (Bounded c → ⊥) → (e : ℕ) (b : State) → b < states c → Triple (Bounded c) 0 I (sent e b) Q
+Sends c I sendOp Q = (Bounded c → ⊥) → (e : ℕ) (b : State) → b < states c → Triple (Bounded c) 0 I (sendOp e b) Q
 
 -- what follows a block, or an instruction
 pub t-unless : {A B : Type 0} {b : ℕ} {I F : Claim} {Q : A → Claim} (r : Ran) (a : A) {f : Stack → Doing A} → F ⇒ Q a
@@ -47,9 +46,9 @@ unfolding unlessAbandoned
 t-unless (ran st) a h tf = tf st
 t-unless abandoned a h tf = t-give a h
 
-module _ (c : Chart) (tr : Tree c) (I F : Claim) {sent : Sent}
+module _ (c : Chart) (tr : Tree c) (I F : Claim) {sendOp : SendOp}
     (set : (im : Image) (v : ℕ) (z : ℤ) → v < variables c → I im → I (setVariable im v z))
-    (sends : Sends c I sent (After I F)) where
+    (sends : Sends c I sendOp (After I F)) where
   -- an instruction, or some, for b units
   abbrev Performs : ℕ → Doing Ran → Type 0
   Performs b m = Triple (Bounded c) b I m (How I F)
@@ -67,7 +66,7 @@ module _ (c : Chart) (tr : Tree c) (I F : Claim) {sent : Sent}
   t-divided st tm = t-if _ (λ e. t-refuse 17 (λ q. omega arith)) (λ e. tm)
 
   pub t-instruct : (o : Op) (i : Instruction) (st : Stack) → operandsRight c (opRule o .operands) i ≡ true
-      → (Bounded c → isSend o ≡ false) → Performs 0 (instruct sent o i st)
+      → (Bounded c → isSend o ≡ false) → Performs 0 (instruct sendOp o i st)
   unfolding instruct opRule isSend operandsRight if_then_else_
   t-instruct C.push i st v q = t-same _
   t-instruct C.load i st v q = t-bind {b′ = 0} t-look (λ a. t-give _ (λ im p. p .1))
@@ -84,13 +83,13 @@ module _ (c : Chart) (tr : Tree c) (I F : Claim) {sent : Sent}
   t-instruct C.not i st v q = t-same _
   t-instruct C.raise i st v q = t-then {b′ = 0} (t-note _ (i .a)) (t-same _)
   t-instruct C.send i st v q =
-      t-bind {b′ = 0} (sends (λ x. clash refl (q x)) (i .a) (unsigned 2 (i .b) % 256) (sends-to-state c (tr .most) i v))
+      t-bind {b′ = 0} (sends (λ x. clash refl (q x)) (i .a) (sentTo i) (sends-to-state c (tr .most) i v))
       (λ g. elim g [ true ↦ t-same _ | false ↦ t-same _ ])
   t-instruct C.unknown i st v q = t-same _
 
   t-perform : (st : Stack) (xs : List ℕ) → every (hasOperands c) (map (instruction c) xs) ≡ true
       → (Bounded c → (x : ℕ) → Mem x xs → isSend (instruction c x .op) ≡ false)
-      → Performs (length xs) (perform sent st (map (instruction c) xs))
+      → Performs (length xs) (perform sendOp st (map (instruction c) xs))
   unfolding perform every
   t-perform st [] v q = t-same _
   t-perform st (x ∷ xs) v q =
@@ -101,17 +100,17 @@ module _ (c : Chart) (tr : Tree c) (I F : Claim) {sent : Sent}
       (t-bind (t-instruct (i .op) i st here (λ b. q b x (List·Memᴰ·head refl)))
       (λ r. t-unless r abandoned (λ im p. p) (λ st′. t-perform st′ xs rest (λ b y m. q b y (List·Memᴰ·tail m))))))
 
-  pub t-block : (k : Block) → Valid c k → Triple (Bounded c) (k .count) I (perform sent [] (code c k)) (How I F)
+  pub t-block : (k : Block) → Valid c k → Triple (Bounded c) (k .count) I (perform sendOp [] (code c k)) (How I F)
   unfolding code
   t-block k v =
       rw up-length at
       (t-perform [] (upFrom (k .start) (k .count)) (v .operands) (λ b i m. b .silent i (v .inside i m)))
 
 -- a send by an owner: F, and all of I where the owner is still there
-pub t-sentBy : (c : Chart) (owner : State) {I F : Claim} → ((im : Image) → F im → isActive im owner ≡ true → I im)
-    → {sending : Sending} → Sends c I sending (λ _. F) → Sends c I (sentBy owner sending) (After I F)
-unfolding sentBy gone
-t-sentBy c owner back ss never e b h =
+pub t-sendFrom : (c : Chart) (owner : State) {I F : Claim} → ((im : Image) → F im → isActive im owner ≡ true → I im)
+    → {deliver : Delivery} → Sends c I deliver (λ _. F) → Sends c I (sendFrom owner deliver) (After I F)
+unfolding sendFrom gone
+t-sendFrom c owner back ss never e b h =
     t-then (ss never e b h)
     (t-bind {b′ = 0} t-look (λ a. t-give _ (λ im (same, f). rw same
     (elim (two (isActive im owner)) [ inl on ↦ rw on (back im f on) | inr off ↦ rw off f ]))))

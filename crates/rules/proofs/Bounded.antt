@@ -11,9 +11,9 @@ use native.Mathlib.Omega.{arith}
 use lib.ListN.{length}
 use borrow.Author.Tests.{eq-eqb, not-true}
 use Rattle.rules.specs.Lists.{if_then_else_, below, isIn, sumOver}
-use Rattle.rules.specs.Chart.{Junction, Segment, Chart, junctions, segments, instructions, destination, condition, conditionAction, instruction, own, endsOnState}
+use Rattle.rules.specs.Chart.{Junction, Segment, Chart, junctions, segments, instructions, destination, condition, conditionAction, instruction, fromJunction, endsOnState}
 use Rattle.rules.specs.Accept.{isSend}
-use Rattle.rules.specs.Bound.{WWithin, W, leads, onward, reaches, loops, boundRefusal}
+use Rattle.rules.specs.Bound.{WWithin, W, leadsTo, onward, reaches, loops, boundRefusal}
 use Rattle.rules.proofs.Laws.{two, clash, and-both, or-cases, or-left, or-right, if-false, unless-zero}
 use Rattle.rules.proofs.Members.{Mem, mem-any, keep-mem, mem-keep, isIn-mem, mem-isIn, below-mem, mem-below, every-below}
 use Rattle.rules.proofs.Sums.{sum-le}
@@ -24,27 +24,27 @@ pub record Bounded (c : Chart) : Type 0 where
   pub silent : (i : ℕ) → i < instructions c → isSend (instruction c i .op) ≡ false
   pub weight : (t : Segment) → t < segments c
       → 1 + condition c t .count + conditionAction c t .count
-      + (if endsOnState c t then 0 else sumOver (W c) (own c (destination c t))) ≤ W c t
+      + (if endsOnState c t then 0 else sumOver (W c) (fromJunction c (destination c t))) ≤ W c t
 
 module _ (c : Chart) where
-  own-is : (j : Junction) {t : Segment} → Mem t (own c j) → t < segments c
-  unfolding own
+  own-is : (j : Junction) {t : Segment} → Mem t (fromJunction c j) → t < segments c
+  unfolding fromJunction
   own-is j m = below-mem (segments c) (keep-mem _ (below (segments c)) m .0)
 
-  own-leads : (j : Junction) (t : Segment) → Mem t (own c j) → endsOnState c t ≡ false → leads c (destination c t) j ≡ true
-  unfolding leads
+  own-leads : (j : Junction) (t : Segment) → Mem t (fromJunction c j) → endsOnState c t ≡ false → leadsTo c (destination c t) j ≡ true
+  unfolding leadsTo
   own-leads j t m e =
-      mem-any _ (own c j) m (and-both (not (endsOnState c t)) _ (ap not e) (eq-eqb (destination c t) _ refl))
+      mem-any _ (fromJunction c j) m (and-both (not (endsOnState c t)) _ (ap not e) (eq-eqb (destination c t) _ refl))
 
   reach-here : (j n : ℕ) (is : List Junction) → Mem j is → reaches c j n is ≡ true
   unfolding reaches
   reach-here j zero is m = mem-isIn j is m
   reach-here j (suc n) is m = or-left (isIn j is) _ (mem-isIn j is m)
 
-  module _ (j k : Junction) (l : leads c k j ≡ true) (h : k < junctions c) where
+  module _ (j k : Junction) (l : leadsTo c k j ≡ true) (h : k < junctions c) where
     onward-mem : (is : List Junction) → Mem j is → Mem k (onward c is)
     unfolding onward
-    onward-mem is m = mem-keep _ (below (junctions c)) (mem-below (junctions c) k h) (mem-any (leads c k) is m l)
+    onward-mem is m = mem-keep _ (below (junctions c)) (mem-below (junctions c) k h) (mem-any (leadsTo c k) is m l)
 
     -- one segment more, from j to k
     reach-on : (n m : ℕ) (is : List Junction) → n ≤ m → reaches c j n is ≡ true → reaches c k m (onward c is) ≡ true
@@ -76,7 +76,7 @@ module _ (c : Chart) where
 
   -- what the segments of a junction weigh, n deep
   abbrev ahead : ℕ → Junction → ℕ
-  ahead n j = sumOver (λ u. WWithin c n u) (own c j)
+  ahead n j = sumOver (λ u. WWithin c n u) (fromJunction c j)
 
   -- one level deeper a segment weighs no more, if those after it don't
   weighs-no-more : (n : ℕ) (t : Segment)
@@ -87,7 +87,7 @@ module _ (c : Chart) where
       elim (two (endsOnState c t)) [ inl e ↦ rw e (omega arith) | inr e ↦ rw e (omega (arith, h e)) ]
 
   module _ (r : Right c) (free : (j : Junction) → j < junctions c → loops c j ≡ false) where
-    next : {j : Junction} {vs : List Junction} (t : Segment) → JunctionsTo j vs → Mem t (own c j) → endsOnState c t ≡ false
+    next : {j : Junction} {vs : List Junction} (t : Segment) → JunctionsTo j vs → Mem t (fromJunction c j) → endsOnState c t ≡ false
         → JunctionsTo (destination c t) (destination c t ∷ vs)
     unfolding loops reaches
     next {j} {vs} t p m e =
@@ -113,7 +113,7 @@ module _ (c : Chart) where
     stable : (n : ℕ) {j : Junction} {vs : List Junction} → JunctionsTo j vs → junctions c < n + length vs
         → ahead (suc n) j ≤ ahead n j
     stable zero p h = let l = short p in absurd (omega arith)
-    stable (suc n) {j} p h = sum-le _ _ (own c j) (λ t m. weighs-no-more n t (λ e. stable n (next t p m e) (omega arith)))
+    stable (suc n) {j} p h = sum-le _ _ (fromJunction c j) (λ t m. weighs-no-more n t (λ e. stable n (next t p m e) (omega arith)))
 
     enough : (t : Segment) → t < segments c → WWithin c (suc (junctions c + 1)) t ≤ WWithin c (junctions c + 1) t
     enough t h =
@@ -131,9 +131,9 @@ bounded c r e =
     }
 
 pub falls : (c : Chart) → Bounded c → (t u : Segment) → t < segments c → endsOnState c t ≡ false
-    → Mem u (own c (destination c t)) → W c u < W c t
+    → Mem u (fromJunction c (destination c t)) → W c u < W c t
 falls c b t u h e m =
     let l = b .weight t h in
-    let q = if-false (endsOnState c t) 0 (sumOver (W c) (own c (destination c t))) e in
-    let k = mem-light (W c) u (own c (destination c t)) m in
+    let q = if-false (endsOnState c t) 0 (sumOver (W c) (fromJunction c (destination c t))) e in
+    let k = mem-light (W c) u (fromJunction c (destination c t)) m in
     omega arith

@@ -5,16 +5,16 @@ use mathlib.Core.Bool.{Bool, true, false}
 use mathlib.Core.List.{List, [], _∷_}
 use Prim.Native.Nat.{ℕ, zero, suc, _≤_}
 use native.Mathlib.Omega.{arith}
-use lib.IntN.{ℤ}
+use lib.IntN.{ℤ, pos}
 use Rattle.rules.specs.Lists.{if_then_else_}
 use Rattle.rules.specs.Chart as C
 use Rattle.rules.specs.Chart.{State, Segment, Chart, Block, Op, Instruction}
 use Rattle.rules.specs.Image.{Image, isActive, notStarted}
 use Rattle.rules.specs.Doing as D
 use Rattle.rules.specs.Doing.{Now, Doing, Done, give, done, refuse, look, change, pay, Act, note, each, whenActive}
-use Rattle.rules.specs.Block.{Stack, Ran, ran, abandoned, unlessAbandoned, binary, checked, divided, Sending, Sent, noSend, sentBy, instruct, perform, action}
-use Rattle.rules.specs.Search.{Found, reached, nowhere, ended, cut, orNext, holds, passes, tries, passed, search}
-use Rattle.rules.specs.Fire.{levels, leaveEach, noteLeft, leave, enterEach, enter, transit, fire}
+use Rattle.rules.specs.Block.{Stack, Ran, ran, abandoned, unlessAbandoned, binary, checked, divided, Delivery, SendOp, noSend, sendFrom, instruct, perform, action, value}
+use Rattle.rules.specs.Search.{Found, reached, nowhere, ended, runAbandoned, orNext, holds, passes, tries, passed, search}
+use Rattle.rules.specs.Fire.{levels, leaveEach, parentRecords, leave, enterEach, enter, transit, fire}
 use Rattle.rules.specs.Run.{follow, runActive, runChildren, runInside, runDuring, run, send, start, step}
 
 -- the rules refuse by 17, 18 and 19, besides the 16 of a pay and the 20 of a note
@@ -79,7 +79,7 @@ module _ {Φ : (A : Type 0) → Doing A → Type 0} (law : Closed Φ) where
   next-has (reached s path) hm = gives _
   next-has nowhere hm = hm
   next-has ended hm = gives _
-  next-has cut hm = gives _
+  next-has runAbandoned hm = gives _
 
   -- a block
 
@@ -99,13 +99,13 @@ module _ {Φ : (A : Type 0) → Doing A → Type 0} (law : Closed Φ) where
   unfolding noSend
   noSend-has e b = gives false
 
-  module _ {sending : Sending} (hs : (e : ℕ) (b : State) → Φ _ (sending e b)) where
-    pub sentBy-has : (owner : State) (e : ℕ) (b : State) → Φ _ (sentBy owner sending e b)
-    unfolding sentBy
-    sentBy-has owner e b = hs e b >> (looks >>= (λ im. gives _))
+  module _ {deliver : Delivery} (hs : (e : ℕ) (b : State) → Φ _ (deliver e b)) where
+    pub sendFrom-has : (owner : State) (e : ℕ) (b : State) → Φ _ (sendFrom owner deliver e b)
+    unfolding sendFrom
+    sendFrom-has owner e b = hs e b >> (looks >>= (λ im. gives _))
 
-  module _ {sent : Sent} (hs : (e : ℕ) (b : State) → Φ _ (sent e b)) where
-    pub instruct-has : (o : Op) (i : Instruction) (st : Stack) → Φ _ (instruct sent o i st)
+  module _ {sendOp : SendOp} (hs : (e : ℕ) (b : State) → Φ _ (sendOp e b)) where
+    pub instruct-has : (o : Op) (i : Instruction) (st : Stack) → Φ _ (instruct sendOp o i st)
     unfolding instruct
     instruct-has C.push i st = gives _
     instruct-has C.load i st = looks >>= (λ im. gives _)
@@ -122,7 +122,7 @@ module _ {Φ : (A : Type 0) → Doing A → Type 0} (law : Closed Φ) where
     instruct-has C.send i st = hs (i .a) _ >>= (λ b. gives _)
     instruct-has C.unknown i st = gives _
 
-    pub perform-has : (st : Stack) (is : List Instruction) → Φ _ (perform sent st is)
+    pub perform-has : (st : Stack) (is : List Instruction) → Φ _ (perform sendOp st is)
     unfolding perform
     perform-has st [] = gives _
     perform-has st (i ∷ is) = do
@@ -134,22 +134,26 @@ module _ {Φ : (A : Type 0) → Doing A → Type 0} (law : Closed Φ) where
   unfolding action
   action-has c k = perform-has noSend-has [] _ >> done-has
 
+  value-has : (c : Chart) (k : Block) → Φ _ (value c k)
+  unfolding value
+  value-has c k = do
+    r ← perform-has noSend-has [] _
+    unless-has r (pos 0) (λ st. gives _)
+
   module _ (c : Chart) where
     -- the search
 
     holds-has : (t : Segment) → Φ _ (holds c t)
     unfolding holds
-    holds-has t = if-has _ (gives true) (do
-      r ← perform-has noSend-has [] _
-      unless-has r false (λ st. gives _))
+    holds-has t = if-has _ (gives true) (value-has c _ >>= (λ z. gives _))
 
     pub passes-has : (e : ℕ) (t : Segment) → Φ _ (passes c e t)
     unfolding passes
     passes-has e t = if-has _ (holds-has t) (gives false)
 
-    module _ {sending : Sending} (hs : (e : ℕ) (b : State) → Φ _ (sending e b)) (e : ℕ) (source : State) where
+    module _ {deliver : Delivery} (hs : (e : ℕ) (b : State) → Φ _ (deliver e b)) (e : ℕ) (source : State) where
       tries-has : {f : Segment → Doing Found} → ((t : Segment) → Φ _ (f t))
-          → (ts : List Segment) → Φ _ (tries c sending e source f ts)
+          → (ts : List Segment) → Φ _ (tries c deliver e source f ts)
       unfolding tries
       tries-has hf [] = gives nowhere
       tries-has hf (t ∷ ts) = do
@@ -158,16 +162,16 @@ module _ {Φ : (A : Type 0) → Doing A → Type 0} (law : Closed Φ) where
         o ← if-has b (hf t) (gives nowhere)
         next-has o (tries-has hf ts)
 
-      passed-has : (n : ℕ) (path : List Segment) (t : Segment) → Φ _ (passed c sending e source n path t)
+      passed-has : (n : ℕ) (path : List Segment) (t : Segment) → Φ _ (passed c deliver e source n path t)
       unfolding passed
       passed-has zero path t = refuses 19 (omega arith) (omega arith)
       passed-has (suc n) path t = do
         notes _ t
-        r ← perform-has (sentBy-has hs source) [] _
-        unless-has r cut (λ _.
+        r ← perform-has (sendFrom-has hs source) [] _
+        unless-has r runAbandoned (λ _.
             if-has _ (gives _) (if-has _ (gives ended) (tries-has (passed-has n _) _)))
 
-      pub search-has : (ts : List Segment) → Φ _ (search c sending e source ts)
+      pub search-has : (ts : List Segment) → Φ _ (search c deliver e source ts)
       unfolding search
       search-has ts = tries-has (passed-has 128 []) ts
 
@@ -177,9 +181,9 @@ module _ {Φ : (A : Type 0) → Doing A → Type 0} (law : Closed Φ) where
     unfolding leaveEach
     leaveEach-has hf s = each-has (λ k. active-has k (hf k)) _
 
-    noteLeft-has : (s : State) → Φ _ (noteLeft c s)
-    unfolding noteLeft
-    noteLeft-has s = if-has _ (changes _) done-has
+    parentRecords-has : (s : State) → Φ _ (parentRecords c s)
+    unfolding parentRecords
+    parentRecords-has s = if-has _ (changes _) done-has
 
     leave-has : (d : ℕ) (s : State) → Φ _ (leave c d s)
     unfolding leave
@@ -188,7 +192,7 @@ module _ {Φ : (A : Type 0) → Doing A → Type 0} (law : Closed Φ) where
       pays
       leaveEach-has (λ k. leave-has d k) s
       action-has c _
-      noteLeft-has s
+      parentRecords-has s
       changes _
       notes _ s
 
@@ -224,7 +228,7 @@ module _ {Φ : (A : Type 0) → Doing A → Type 0} (law : Closed Φ) where
     follow-has p (reached s path) hr = fire-has p s path
     follow-has p nowhere hr = hr
     follow-has p ended hr = hr
-    follow-has p cut hr = done-has
+    follow-has p runAbandoned hr = done-has
 
     runActive-has : {f : State → Done} → ((s : State) → Φ _ (f s)) → (p : State) → Φ _ (runActive c f p)
     unfolding runActive
@@ -234,19 +238,19 @@ module _ {Φ : (A : Type 0) → Doing A → Type 0} (law : Closed Φ) where
     unfolding runChildren
     runChildren-has hf p = if-has _ (runActive-has hf p) (each-has (λ s. active-has s (hf s)) _)
 
-    module _ {sending : Sending} (hs : (e : ℕ) (b : State) → Φ _ (sending e b)) (e : ℕ) where
-      runInside-has : {f : State → Done} → ((s : State) → Φ _ (f s)) → (p : State) → Φ _ (runInside c sending e f p)
+    module _ {deliver : Delivery} (hs : (e : ℕ) (b : State) → Φ _ (deliver e b)) (e : ℕ) where
+      runInside-has : {f : State → Done} → ((s : State) → Φ _ (f s)) → (p : State) → Φ _ (runInside c deliver e f p)
       unfolding runInside
       runInside-has hf p = search-has hs e p _ >>= (λ o. follow-has p o (runChildren-has hf p))
 
-      runDuring-has : {f : State → Done} → ((s : State) → Φ _ (f s)) → (p : State) → Φ _ (runDuring c sending e f p)
+      runDuring-has : {f : State → Done} → ((s : State) → Φ _ (f s)) → (p : State) → Φ _ (runDuring c deliver e f p)
       unfolding runDuring
       runDuring-has hf p = do
         notes _ p
-        r ← perform-has (sentBy-has hs p) [] _
+        r ← perform-has (sendFrom-has hs p) [] _
         unless-has r tt (λ _. runInside-has hf p)
 
-      run-has : (d : ℕ) (p : State) → Φ _ (run c sending e d p)
+      run-has : (d : ℕ) (p : State) → Φ _ (run c deliver e d p)
       unfolding run
       run-has zero p = done-has
       run-has (suc d) p = do

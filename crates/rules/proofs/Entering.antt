@@ -12,7 +12,7 @@ use Rattle.rules.specs.Lists.{if_then_else_, sumOver, _else_}
 use Rattle.rules.specs.Chart.{State, Chart, states, parent, initial, isOneOf, children, entry, over}
 use Rattle.rules.specs.Image.{Image, isActive, recorded, activate}
 use Rattle.rules.specs.Doing.{Done, stateEntered}
-use Rattle.rules.specs.Fire.{onTheWay, entered, enterEach, enter}
+use Rattle.rules.specs.Fire.{onTheWay, toEnter, enterEach, enter}
 use Rattle.rules.proofs.Laws.{two, clash, not-yes}
 use Rattle.rules.proofs.Members.{Mem, first-mem}
 use Rattle.rules.proofs.Distinct.{Distinct, light}
@@ -79,8 +79,8 @@ module _ (c : Chart) (rt : Right c) where
   unfolding onTheWay
   on-the-way s target = ⊎-map (λ e. e) (λ m. children-mem c s (m .0)) (first-mem (λ k. over c k target) (children c s))
 
-  choice : (s target : State) (im : Image) → s < states c → Sound c im → Choice c s (entered c s target im)
-  unfolding entered if_then_else_
+  choice : (s target : State) (im : Image) → s < states c → Sound c im → Choice c s (toEnter c s target im)
+  unfolding toEnter if_then_else_
   choice s target im h so =
       elim (two (isOneOf c s)) [
         | inl o ↦ rw o
@@ -106,7 +106,7 @@ module _ (c : Chart) (rt : Right c) where
 
   module _ (target s : State) (im₀ : Image) (h : s < states c) (ba : Bare c s im₀) where
     abbrev ks : List State
-    ks = entered c s target im₀
+    ks = toEnter c s target im₀
 
     picks : Choice c s ks
     picks = choice s target im₀ h (ba .sound)

@@ -9,7 +9,7 @@ use native.Mathlib.Decide.{ℕ-discrete}
 use native.Mathlib.Omega.{arith}
 use lib.Dec.{eqb}
 use Rattle.rules.specs.Lists.{if_then_else_, below, first, sumOver}
-use Rattle.rules.specs.Chart.{State, Segment, Chart, deepest, states, segments, parent, transitionAction, children, line}
+use Rattle.rules.specs.Chart.{State, Segment, Chart, deepest, states, segments, parent, transitionAction, children, lineage}
 use Rattle.rules.specs.Image.{Image, isActive}
 use Rattle.rules.specs.Doing.{each, transitionPerformed}
 use Rattle.rules.specs.Fire.{leave, enter, arena, common, transit, fire}
@@ -64,8 +64,8 @@ module _ (c : Chart) (rt : Right c) where
           ];
         }
 
-    up-line : (n : ℕ) (s : State) → Up c im s → (x : State) → Mem x (line c n s) → Up c im x
-    unfolding line
+    up-line : (n : ℕ) (s : State) → Up c im s → (x : State) → Mem x (lineage c n s) → Up c im x
+    unfolding lineage
     up-line zero s u x m = rw (List·Memᴰ·eq-of-singleton m) u
     up-line (suc n) s u x m =
         elim (List·Memᴰ·cases-cons m) [
@@ -73,9 +73,9 @@ module _ (c : Chart) (rt : Right c) where
           | inr m ↦ up-line n (parent c s) (up-parent s u) x (else-mem (eqb s 0) m .1)
         ]
 
-    up-first : (s : State) → Up c im s → (f : State → Bool) → Up c im (first f (line c deepest s))
+    up-first : (s : State) → Up c im s → (f : State → Bool) → Up c im (first f (lineage c deepest s))
     up-first s u f =
-        elim (first-mem f (line c deepest s)) [ inl e ↦ rw e up-root | inr m ↦ up-line deepest s u _ (m .0) ]
+        elim (first-mem f (lineage c deepest s)) [ inl e ↦ rw e up-root | inr m ↦ up-line deepest s u _ (m .0) ]
 
     pub up-arena : (source target : State) (path : List Segment) → Up c im source → Up c im (arena c source target path)
     unfolding arena common if_then_else_

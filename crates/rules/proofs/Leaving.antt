@@ -11,7 +11,7 @@ use Rattle.rules.specs.Lists.{sumOver}
 use Rattle.rules.specs.Chart.{State, Chart, states, parent, keepsHistory, children, childrenDown, exit}
 use Rattle.rules.specs.Image.{Image, isActive, deactivate}
 use Rattle.rules.specs.Doing.{Done, stateLeft}
-use Rattle.rules.specs.Fire.{leaveEach, noteLeft, leave}
+use Rattle.rules.specs.Fire.{leaveEach, parentRecords, leave}
 use Rattle.rules.proofs.Members.{Mem}
 use Rattle.rules.proofs.Taken.{Child, Tree, Right, childrenDown-mem, mem-childrenDown, tree, exit-valid}
 use Rattle.rules.proofs.Trees.{child-of-parent, here, Deep, child-more, deep-child, deep-end, low}
@@ -98,9 +98,9 @@ module _ (c : Chart) (rt : Right c) where
         (λ im e a. leaving-left a (record { moved = unmoved (a .moved .sound); gone = e }))) (childrenDown c s)))
 
   module _ (k : State) (h : k < states c) {im₀ : Image} where
-    t-noteLeft : 0 < k → Triple (Bounded c) 0 (Emptied c k im₀) (noteLeft c k) (λ _. Emptied c k im₀)
-    unfolding noteLeft
-    t-noteLeft p =
+    t-parentRecords : 0 < k → Triple (Bounded c) 0 (Emptied c k im₀) (parentRecords c k) (λ _. Emptied c k im₀)
+    unfolding parentRecords
+    t-parentRecords p =
         t-if (keepsHistory c (parent c k)) (λ e. t-change _ (λ im a. emptied-quiet k im₀ im _ a
         (record {
           sound = record-sound c tr im _ _ (let u = tr .up k h p in omega arith) e (child-of-parent p h) (a .moved .sound);
@@ -141,5 +141,5 @@ module _ (c : Chart) (rt : Right c) where
       (t-then (t-leaveEach k im₀ so (weigh c (leavingCost c) d) _
       (λ j ch. t-leave d (suc n) (omega arith) j (ch .above) (ch .state) (deep-child c tr n deep ch)))
       (t-then (t-action c tr (λ im a. a .moved .sound) (emptied-quiet k im₀) (exit c k) (exit-valid c rt k h))
-      (t-then (t-noteLeft k h p)
+      (t-then (t-parentRecords k h p)
       (t-then (t-change {Q = Left c k im₀} _ (λ _. left-off k h)) (t-note stateLeft k))))))

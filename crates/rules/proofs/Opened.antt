@@ -26,7 +26,7 @@ unfolding Lists.if_then_else_ Lists.upFrom Lists.downFrom Lists.below Lists.rang
 lists = tt
 
 unfoldable pub chart : Unit {0}
-unfolding Chart.opOf Chart.total Chart.instruction Chart.code Chart.children Chart.childrenDown Chart.startsAt Chart.outer Chart.inner Chart.own Chart.line Chart.over
+unfolding Chart.opOf Chart.total Chart.instruction Chart.code Chart.children Chart.childrenDown Chart.startsAt Chart.outer Chart.inner Chart.fromJunction Chart.lineage Chart.over
 chart = tt
 
 unfoldable pub accept : Unit {0}
@@ -42,7 +42,7 @@ unfolding Doing.because Doing.give Doing.done Doing.refuse Doing._>>=_ Doing._>>
 doing = tt
 
 unfoldable pub block : Unit {0}
-unfolding Block.unlessAbandoned Block.top Block.lower Block._onto_ Block.binary Block.checked Block.divided Block.gone Block.noSend Block.sentBy Block.instruct Block.perform Block.action
+unfolding Block.unlessAbandoned Block.top Block.lower Block._onto_ Block.binary Block.checked Block.divided Block.gone Block.noSend Block.sendFrom Block.instruct Block.perform Block.action Block.value
 block = tt
 
 unfoldable pub search : Unit {0}
@@ -50,7 +50,7 @@ unfolding Search.orNext Search.holds Search.passes Search.tries Search.passed Se
 search = tt
 
 unfoldable pub fire : Unit {0}
-unfolding Fire.leaveEach Fire.noteLeft Fire.leave Fire.onTheWay Fire.entered Fire.enterEach Fire.enter Fire.junctionParents Fire.common Fire.arena Fire.transit Fire.fire
+unfolding Fire.leaveEach Fire.parentRecords Fire.leave Fire.onTheWay Fire.toEnter Fire.enterEach Fire.enter Fire.junctionParents Fire.common Fire.arena Fire.transit Fire.fire
 fire = tt
 
 unfoldable pub run : Unit {0}
@@ -58,11 +58,11 @@ unfolding Run.follow Run.runActive Run.runChildren Run.runInside Run.runDuring R
 run = tt
 
 unfoldable pub bound : Unit {0}
-unfolding Bound.WWithin Bound.W Bound.G Bound.bound Bound.leads Bound.onward Bound.reaches Bound.loops Bound.boundRefusal
+unfolding Bound.WWithin Bound.W Bound.G Bound.bound Bound.leadsTo Bound.onward Bound.reaches Bound.loops Bound.boundRefusal
 bound = tt
 
 unfoldable pub calls : Unit {0}
-unfolding Calls.part Calls.withPart Calls.partRefusal Calls.numberOnly Calls.freshTested Calls.freshCall Calls.boundTested Calls.boundCall Calls.stepRefusal Calls.begin Calls.itemBytes Calls.stepAnswer Calls.stepTested Calls.stepCall Calls.packed Calls.left
+unfolding Calls.part Calls.withPart Calls.partRefusal Calls.numberOnly Calls.unlessRefused Calls.freshCall Calls.boundCall Calls.stepRefusal Calls.begin Calls.itemBytes Calls.stepAnswer Calls.stepCall Calls.packed Calls.observed
 calls = tt
 
 unfoldable pub session : Unit {0}
@@ -70,7 +70,7 @@ unfolding Session.decimal Session.line Session.badSession Session.itemsIn Sessio
 session = tt
 
 unfoldable pub charts : Unit {0}
-unfolding Charts.blockBytes Charts.CH Charts.ST Charts.plain Charts.leaf Charts.JN Charts.TR Charts.bare Charts.VA Charts.IN Charts.chartA Charts.backtrack Charts.deadEnd Charts.toItself Charts.shared Charts.sendsFirst Charts.beside Charts.reckons Charts.loop Charts.orders Charts.inside Charts.nested Charts.hangsUp Charts.sendsLater Charts.sendsBoth Charts.chain Charts.deep Charts.alone Charts.pair Charts.upwards Charts.thrice Charts.manyWays Charts.blocks Charts.withEntry Charts.withDuring Charts.withExit Charts.withCondition Charts.withConditionAction Charts.withTransitionAction Charts.unused Charts.times Charts.piles
+unfolding Charts.blockBytes Charts.CH Charts.ST Charts.plain Charts.leaf Charts.JN Charts.TR Charts.bare Charts.VA Charts.IN Charts.chartA Charts.backtrack Charts.deadEnd Charts.toItself Charts.shared Charts.sendsFirst Charts.beside Charts.reckons Charts.loop Charts.orders Charts.inside Charts.nested Charts.hangsUp Charts.sendsLater Charts.sendsBoth Charts.besideItself Charts.roundItself Charts.nestedBeside Charts.otherChild Charts.otherEvent Charts.deadBehind Charts.overBoth Charts.remembers Charts.countsRound Charts.twoRound Charts.aloneRound Charts.chain Charts.deep Charts.alone Charts.pair Charts.upwards Charts.thrice Charts.manyWays Charts.blocks Charts.withEntry Charts.withDuring Charts.withExit Charts.withCondition Charts.withConditionAction Charts.withTransitionAction Charts.unused Charts.times Charts.piles
 charts = tt
 
 unfoldable pub cases : Unit {0}
@@ -78,7 +78,7 @@ unfolding Cases.sameBy Cases.lent Cases.boardFrom Cases.boardAfter Cases.isAnswe
 cases = tt
 
 unfoldable pub moreCases : Unit {0}
-unfolding MoreCases.moves MoreCases.sends MoreCases.gives MoreCases.overflows MoreCases.enters MoreCases.values MoreCases.dividesByZero MoreCases.limits MoreCases.atState MoreCases.atSegment MoreCases.refusedCharts MoreCases.images MoreCases.between MoreCases.freshA MoreCases.startedA MoreCases.answers MoreCases.sessions MoreCases.cases
+unfolding MoreCases.moves MoreCases.sends MoreCases.gives MoreCases.overflows MoreCases.enters MoreCases.values MoreCases.dividesByZero MoreCases.limits MoreCases.atState MoreCases.atSegment MoreCases.refusedCharts MoreCases.images MoreCases.between MoreCases.freshA MoreCases.startedA MoreCases.answers MoreCases.sessions MoreCases.deadEndBehind MoreCases.segmentsOfAnotherEvent MoreCases.everyJunctionCounts MoreCases.roundToItself MoreCases.everyChildMoves MoreCases.targetsRecord MoreCases.arenasRecord MoreCases.childAfterInner MoreCases.ninthToNobody MoreCases.lastDoesNotPass MoreCases.loopOfTwo MoreCases.loopApart MoreCases.apart MoreCases.cases
 moreCases = tt
 
 unfoldable pub opened : Unit {0}

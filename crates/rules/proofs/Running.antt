@@ -9,11 +9,11 @@ use Prim.Native.Nat.{ℕ, zero, suc, _+_, _≤_, _<_}
 use native.Mathlib.Omega.{arith}
 use borrow.Author.Tests.{eqb-false}
 use Rattle.rules.specs.Lists.{if_then_else_, below, keep, sumOver}
-use Rattle.rules.specs.Chart.{State, Segment, Chart, Block, code, states, segments, during, destination, condition, conditionAction, isOneOf, children, outer, inner, own, startsAt, endsOnState}
+use Rattle.rules.specs.Chart.{State, Segment, Chart, Block, code, states, segments, during, destination, condition, conditionAction, isOneOf, children, outer, inner, fromJunction, startsAt, endsOnState}
 use Rattle.rules.specs.Image.{Image, isActive}
 use Rattle.rules.specs.Doing.{Doing, Done, _>>=_, segmentPassed, duringPoint}
-use Rattle.rules.specs.Block.{ran, abandoned, unlessAbandoned, Sending, sentBy, perform}
-use Rattle.rules.specs.Search.{Found, reached, nowhere, ended, cut, orNext, holds, passes, tries, passed, search}
+use Rattle.rules.specs.Block.{ran, abandoned, unlessAbandoned, Delivery, sendFrom, perform, value}
+use Rattle.rules.specs.Search.{Found, reached, nowhere, ended, runAbandoned, orNext, holds, passes, tries, passed, search}
 use Rattle.rules.specs.Run.{follow, runActive, runChildren, runInside, runDuring, run, send}
 use Rattle.rules.specs.Bound.{W, G}
 use Rattle.rules.proofs.Members.{Mem, keep-mem, below-mem, first-mem}
@@ -22,7 +22,7 @@ use Rattle.rules.proofs.Taken.{Tree, Right, Valid, tree, to-state, chil
 use Rattle.rules.proofs.Weights.{weigh}
 use Rattle.rules.proofs.Triple.{Claim, _⇒_, Triple, t-pre, t-more, t-given, t-give, t-refuse, t-if, t-same, t-bind, t-then, t-done, t-look, t-pay, t-note, t-active, t-each-in}
 use Rattle.rules.proofs.Bounded.{Bounded, falls}
-use Rattle.rules.proofs.Blocks.{How, Sends, t-unless, t-block, t-sentBy, Quiet, keeps-set, t-condition}
+use Rattle.rules.proofs.Blocks.{How, Sends, t-unless, t-block, t-sendFrom, Quiet, keeps-set, t-condition}
 use Rattle.rules.proofs.Shape.{Good, quiet-at, quiet-good}
 use Rattle.rules.proofs.Firing.{Going, Path, t-fire}
 
@@ -47,11 +47,11 @@ abbrev pub Got : Chart → State → Found → Claim
 Got c p (reached s path) im = Reach c s path × Going c p im
 Got c p nowhere im = Going c p im
 Got c p ended im = Going c p im
-Got c p cut im = Good c im
+Got c p runAbandoned im = Good c im
 
 -- what a segment that passed costs, and what running a state costs, without its children
 unfoldable pub beyond : Chart → Segment → ℕ
-beyond c t = if endsOnState c t then 0 else sumOver (W c) (own c (destination c t))
+beyond c t = if endsOnState c t then 0 else sumOver (W c) (fromJunction c (destination c t))
 
 unfoldable pub passedCost : Chart → Segment → ℕ
 passedCost c t = conditionAction c t .count + beyond c t
@@ -87,8 +87,8 @@ module _ (c : Chart) (rt : Right c) where
       }
 
   pub further : {path : List Segment} {t : Segment} (u : Segment) → Way c path t → endsOnState c t ≡ false
-      → Mem u (own c (destination c t)) → Way c (path ++ (t ∷ [])) u
-  unfolding own
+      → Mem u (fromJunction c (destination c t)) → Way c (path ++ (t ∷ [])) u
+  unfolding fromJunction
   further {path} {t} u w e m =
       record {
         route = longer w;
@@ -112,7 +112,7 @@ module _ (c : Chart) (rt : Right c) where
   unfolding passedCost beyond
   tried t h x = omega (arith, x .weight t h)
 
-  at-junction : (t : Segment) → endsOnState c t ≡ false → sumOver (W c) (own c (destination c t)) ≤ beyond c t
+  at-junction : (t : Segment) → endsOnState c t ≡ false → sumOver (W c) (fromJunction c (destination c t)) ≤ beyond c t
   unfolding beyond if_then_else_
   at-junction t e = rw e (omega arith)
 
@@ -125,12 +125,12 @@ module _ (c : Chart) (rt : Right c) where
         (quiet-good c tr im₀ im q g, record { state = u .state; on = quiet-at c tr im₀ im q p (u .state) ∙ u .on })
 
     t-holds : (t : Segment) → t < segments c → Triple B (condition c t .count) (Going c p) (holds c t) (λ _. Going c p)
-    unfolding holds unlessAbandoned
+    unfolding holds value unlessAbandoned
     t-holds t h =
         t-if _ (λ e. t-same _)
         (λ e. t-more (λ x. omega arith)
-        (t-bind {b′ = 0} (t-condition c tr (λ im g. g .0 .sound) going-quiet (condition c t) (condition-valid c rt t h))
-        (λ r. elim r [ ran st ↦ t-same _ | abandoned ↦ t-same _ ])))
+        (t-bind {b′ = 0} (t-bind {b′ = 0} (t-condition c tr (λ im g. g .0 .sound) going-quiet (condition c t) (condition-valid c rt t h))
+        (λ r. elim r [ ran st ↦ t-same _ | abandoned ↦ t-same _ ])) (λ z. t-same _)))
 
     pub t-passes : (e : ℕ) (t : Segment) → t < segments c
         → Triple B (condition c t .count) (Going c p) (passes c e t) (λ _. Going c p)
@@ -142,7 +142,7 @@ module _ (c : Chart) (rt : Right c) where
     t-next (reached s path) tm = t-same _
     t-next nowhere tm = tm
     t-next ended tm = t-same _
-    t-next cut tm = t-same _
+    t-next runAbandoned tm = t-same _
 
     t-follow : {b : ℕ} (o : Found) {m : Done} → (B → G c ≤ b) → Runs p b m
         → Triple B b (Got c p o) (follow c p o m) (λ _. Good c)
@@ -150,27 +150,27 @@ module _ (c : Chart) (rt : Right c) where
     t-follow (reached s path) l tm = t-more l (t-given (λ r. t-fire c rt p s path (r .route .inside) (r .route .distinct)))
     t-follow nowhere l tm = tm
     t-follow ended l tm = tm
-    t-follow cut l tm = t-done
+    t-follow runAbandoned l tm = t-done
 
-  module _ (sending : Sending) (ss : Sends c (Good c) sending (λ _. Good c)) (e : ℕ) where
+  module _ (deliver : Delivery) (ss : Sends c (Good c) deliver (λ _. Good c)) (e : ℕ) where
     module _ (p : State) (h : p < states c) where
       -- a block that p owns
       pub t-owns : (k : Block) → Valid c k
-          → Triple B (k .count) (Going c p) (perform (sentBy p sending) [] (code c k)) (How (Going c p) (Good c))
+          → Triple B (k .count) (Going c p) (perform (sendFrom p deliver) [] (code c k)) (How (Going c p) (Good c))
       t-owns k v =
           t-block c tr (Going c p) (Good c) (keeps-set c tr (λ im g. g .0 .sound) (going-quiet p))
-          (t-sentBy c p (λ im g on. going h im (on, g)) (λ never e b l. t-pre (λ im g. g .0) (ss never e b l))) k v
+          (t-sendFrom c p (λ im g on. going h im (on, g)) (λ never e b l. t-pre (λ im g. g .0) (ss never e b l))) k v
 
       -- and what follows it where p is still there
       t-owned : {A : Type 0} {b : ℕ} {Q : A → Claim} {m : Doing A} (k : Block) → Valid c k → (a : A) → Good c ⇒ Q a
           → Triple B b (Going c p) m Q
           → Triple B (k .count + b) (Going c p)
-          (perform (sentBy p sending) [] (code c k) >>= (λ r. unlessAbandoned r a (λ _. m))) Q
+          (perform (sendFrom p deliver) [] (code c k) >>= (λ r. unlessAbandoned r a (λ _. m))) Q
       t-owned k v a back tm = t-bind (t-owns k v) (λ r. t-unless r a back (λ _. tm))
 
       pub t-tries : (f : Segment → Doing Found) (path : List Segment)
           → ((t : Segment) → Way c path t → Finds p (passedCost c t) (f t)) → (ts : List Segment)
-          → ((t : Segment) → Mem t ts → Way c path t) → Finds p (sumOver (W c) ts) (tries c sending e p f ts)
+          → ((t : Segment) → Mem t ts → Way c path t) → Finds p (sumOver (W c) ts) (tries c deliver e p f ts)
       unfolding tries sumOver
       t-tries f path tf [] ways = t-same _
       t-tries f path tf (t ∷ ts) ways =
@@ -182,20 +182,20 @@ module _ (c : Chart) (rt : Right c) where
           (λ o. t-next p o (t-tries f path tf ts (λ u m. ways u (List·Memᴰ·tail m)))))))
 
       pub t-passed : (n : ℕ) (path : List Segment) (t : Segment) → Way c path t
-          → Finds p (passedCost c t) (passed c sending e p n path t)
+          → Finds p (passedCost c t) (passed c deliver e p n path t)
       unfolding passed passedCost
       t-passed zero path t w = t-refuse 19 (λ q. omega arith)
       t-passed (suc n) path t w =
           t-more (λ x. omega arith)
           (t-then (t-note segmentPassed t)
-          (t-owned (conditionAction c t) (conditionAction-valid c rt t (w .real)) cut (λ im g. g)
+          (t-owned (conditionAction c t) (conditionAction-valid c rt t (w .real)) runAbandoned (λ im g. g)
           (t-if _ (λ q. t-give _ (λ im g. (record { state = to-state c rt t (w .real) q; route = longer w }, g)))
           (λ q. t-if _ (λ z. t-same _)
           (λ z. t-more (λ x. at-junction t q)
-          (t-tries _ (path ++ (t ∷ [])) (λ u v. t-passed n (path ++ (t ∷ [])) u v) (own c (destination c t))
+          (t-tries _ (path ++ (t ∷ [])) (λ u v. t-passed n (path ++ (t ∷ [])) u v) (fromJunction c (destination c t))
           (λ u m. further u w q m)))))))
 
-      pub t-search : (ts : List Segment) → Path c ts → Finds p (sumOver (W c) ts) (search c sending e p ts)
+      pub t-search : (ts : List Segment) → Path c ts → Finds p (sumOver (W c) ts) (search c deliver e p ts)
       unfolding search
       t-search ts v = t-tries _ [] (t-passed 128 []) ts (λ t m. no-way t (v t m))
 
@@ -230,19 +230,19 @@ module _ (c : Chart) (rt : Right c) where
             t-if (isOneOf c p) (λ q. t-runActive)
             (λ q. t-pre (λ im g. g .0) (t-each-in w _ (children c p) (λ s m. t-active s (t-child s m) (λ im z g. g))))
 
-        t-runInside : Runs p insideCost (runInside c sending e f p)
+        t-runInside : Runs p insideCost (runInside c deliver e f p)
         unfolding runInside inner
         t-runInside =
             t-bind (t-search (inner c p) (starts-path 1 p))
             (λ o. t-follow p o (λ x. omega arith) (t-more (λ x. omega arith) t-runChildren))
 
-        t-runDuring : Runs p (during c p .count + insideCost) (runDuring c sending e f p)
+        t-runDuring : Runs p (during c p .count + insideCost) (runDuring c deliver e f p)
         unfolding runDuring
         t-runDuring =
             t-more (λ x. omega arith)
             (t-then (t-note duringPoint p) (t-owned (during c p) (during-valid c rt p h) tt (λ im g. g) t-runInside))
 
-    pub t-run : (d : ℕ) (p : State) → p < states c → Runs p (weigh c (runningCost c) d p) (run c sending e d p)
+    pub t-run : (d : ℕ) (p : State) → p < states c → Runs p (weigh c (runningCost c) d p) (run c deliver e d p)
     unfolding run weigh runningCost outer
     t-run zero p h = t-pre (λ im g. g .0) t-done
     t-run (suc d) p h =

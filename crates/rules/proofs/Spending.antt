@@ -8,11 +8,11 @@ use native.Mathlib.Omega.{arith}
 use Rattle.rules.specs.Lists.{if_then_else_}
 use Rattle.rules.specs.Chart.{State, Segment, Chart, Instruction}
 use Rattle.rules.specs.Doing.{Now, went, Doing, give, refuse, _>>=_, _>>_, pay, Act, note}
-use Rattle.rules.specs.Block.{Stack, Sending, Sent, sentBy, perform}
+use Rattle.rules.specs.Block.{Stack, Delivery, SendOp, sendFrom, perform}
 use Rattle.rules.specs.Search.{passes, search}
 use Rattle.rules.specs.Fire.{fire}
 use Rattle.rules.specs.Run.{send, step}
-use Rattle.rules.proofs.Closing.{Closed, _>>_ as then-has, if-has, sentBy-has, perform-has, passes-has, search-has, fire-has, send-has, step-has}
+use Rattle.rules.proofs.Closing.{Closed, _>>_ as then-has, if-has, sendFrom-has, perform-has, passes-has, search-has, fire-has, send-has, step-has}
 use Rattle.rules.proofs.Keeping.{Keeps, Lawful, paid-keeps, refuse-keeps, keeps-closed}
 pub use Rattle.rules.proofs.Keeping.{both-went}
 
@@ -70,20 +70,20 @@ pay-then-strict {m = m} sm n a n′ e =
 
 -- the definitions of the rules
 
-pub sentBy-spends : (owner : State) {sending : Sending} → ((e : ℕ) (b : State) → Spends (sending e b))
-    → (e : ℕ) (b : State) → Spends (sentBy owner sending e b)
-sentBy-spends owner ss e b = sentBy-has spends ss owner e b
+pub sendFrom-spends : (owner : State) {deliver : Delivery} → ((e : ℕ) (b : State) → Spends (deliver e b))
+    → (e : ℕ) (b : State) → Spends (sendFrom owner deliver e b)
+sendFrom-spends owner ss e b = sendFrom-has spends ss owner e b
 
-pub perform-spends : {sent : Sent} → ((e : ℕ) (b : State) → Spends (sent e b))
-    → (st : Stack) (is : List Instruction) → Spends (perform sent st is)
+pub perform-spends : {sendOp : SendOp} → ((e : ℕ) (b : State) → Spends (sendOp e b))
+    → (st : Stack) (is : List Instruction) → Spends (perform sendOp st is)
 perform-spends ss st is = perform-has spends ss st is
 
 module _ (c : Chart) where
   pub passes-spends : (e : ℕ) (t : Segment) → Spends (passes c e t)
   passes-spends e t = passes-has spends c e t
 
-  pub search-spends : {sending : Sending} → ((e : ℕ) (b : State) → Spends (sending e b))
-      → (e : ℕ) (source : State) (ts : List Segment) → Spends (search c sending e source ts)
+  pub search-spends : {deliver : Delivery} → ((e : ℕ) (b : State) → Spends (deliver e b))
+      → (e : ℕ) (source : State) (ts : List Segment) → Spends (search c deliver e source ts)
   search-spends ss e source ts = search-has spends c ss e source ts
 
   pub fire-spends : (source target : State) (path : List Segment) → Spends (fire c source target path)

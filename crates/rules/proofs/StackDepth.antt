@@ -15,7 +15,7 @@ use Rattle.rules.specs.Lists.{if_then_else_}
 use Rattle.rules.specs.Chart.{Chart, stackPlaces, Block, Op, push, load, store, add, subtract, multiply, quotient, remainder, less, equal, not, raise, send, unknown, Instruction, code}
 use Rattle.rules.specs.Accept.{opRule, Place, endsAt, depthAfter, stackRight, stackUseRight}
 use Rattle.rules.specs.Doing.{Now, Outcome, refused, went, Doing, give, refuse, after, _>>=_, _>>_, look, change, pay, outputRaised, note}
-use Rattle.rules.specs.Block.{Stack, Ran, ran, abandoned, unlessAbandoned, _onto_, binary, checked, divided, Sent, instruct, perform}
+use Rattle.rules.specs.Block.{Stack, Ran, ran, abandoned, unlessAbandoned, _onto_, binary, checked, divided, SendOp, instruct, perform}
 use Rattle.rules.proofs.Laws.{both}
 
 -- what an outcome leaves
@@ -78,8 +78,8 @@ step-right e d i is right =
     let here = both enough room (tests .0) in
     (here .0, here .1, tests .1)
 
-module _ (sent : Sent) where
-  counted : (o : Op) (i : Instruction) (st : Stack) (n : Now) → leb (length st - opRule o .takes + opRule o .gives) stackPlaces ≡ true → leaves (deep (length st - opRule o .takes + opRule o .gives)) (instruct sent o i st n)
+module _ (sendOp : SendOp) where
+  counted : (o : Op) (i : Instruction) (st : Stack) (n : Now) → leb (length st - opRule o .takes + opRule o .gives) stackPlaces ≡ true → leaves (deep (length st - opRule o .takes + opRule o .gives)) (instruct sendOp o i st n)
   unfolding opRule instruct give _>>=_ _>>_ look change binary
   counted push i st n room = gives-one 0 _ st room
   counted load i st n room = gives-one 0 _ st room
@@ -94,40 +94,40 @@ module _ (sent : Sent) where
   counted not i st n room = gives-one 1 _ st room
   counted raise i st n room = follows _ (note outputRaised (i .a) n) _ (λ a m. takes-only 0 st)
   counted send i st n room =
-      follows _ (sent _ _ n) _
+      follows _ (sendOp _ _ n) _
       (λ b m. either (λ r. leaves (deep (length st - 0 + 0)) (went r m)) b _ _ tt (takes-only 0 st))
   counted unknown i st n room = takes-only 0 st
 
   -- when the first of a right list are performed, the others are right from the stack left
-  goes-on : (e : ℕ) (is js : List Instruction) (st : Stack) (n : Now) → stackRight e (length st) (is ++ js) ≡ true → leaves (λ s. stackRight e (length s) js ≡ true) (perform sent st is n)
+  goes-on : (e : ℕ) (is js : List Instruction) (st : Stack) (n : Now) → stackRight e (length st) (is ++ js) ≡ true → leaves (λ s. stackRight e (length s) js ≡ true) (perform sendOp st is n)
   unfolding perform pay give _>>=_ _>>_ depthAfter
   goes-on e [] js st n right = right
   goes-on e (i ∷ is) js st n right =
       let tests = step-right e (length st) i (is ++ js) right in
       follows _ (pay n) _
-      (λ a m. follows-stack (deep (depthAfter (length st) i)) _ (instruct sent (i .op) i st m) _ (counted (i .op) i st m (tests .1))
+      (λ a m. follows-stack (deep (depthAfter (length st) i)) _ (instruct sendOp (i .op) i st m) _ (counted (i .op) i st m (tests .1))
       (λ s m′ l. goes-on e is js s m′ (rw l (tests .2))))
 
   -- the theorems: of what goes on, neither refused nor abandoned
 
   -- an instruction with room for what it gives leaves the stack as deep as is counted: no value is dropped
-  pub as-counted : (i : Instruction) (st st′ : Stack) (n n′ : Now) → leb (depthAfter (length st) i) stackPlaces ≡ true → instruct sent (i .op) i st n ≡ went (ran st′) n′ → length st′ ≡ depthAfter (length st) i
+  pub as-counted : (i : Instruction) (st st′ : Stack) (n n′ : Now) → leb (depthAfter (length st) i) stackPlaces ≡ true → instruct sendOp (i .op) i st n ≡ went (ran st′) n′ → length st′ ≡ depthAfter (length st) i
   unfolding depthAfter
   as-counted i st st′ n n′ room w = rw w at (counted (i .op) i st n room)
 
   -- where a right list comes to its instruction i, no value that i takes is missing, and there is room for what it gives
-  pub none-missing : (e : ℕ) (is js : List Instruction) (i : Instruction) (st st′ : Stack) (n n′ : Now) → stackRight e (length st) (is ++ (i ∷ js)) ≡ true → perform sent st is n ≡ went (ran st′) n′ → (leb (opRule (i .op) .takes) (length st′) ≡ true) × (leb (depthAfter (length st′) i) stackPlaces ≡ true)
+  pub none-missing : (e : ℕ) (is js : List Instruction) (i : Instruction) (st st′ : Stack) (n n′ : Now) → stackRight e (length st) (is ++ (i ∷ js)) ≡ true → perform sendOp st is n ≡ went (ran st′) n′ → (leb (opRule (i .op) .takes) (length st′) ≡ true) × (leb (depthAfter (length st′) i) stackPlaces ≡ true)
   none-missing e is js i st st′ n n′ right w =
       let tests = step-right e (length st′) i js (rw w at (goes-on e is (i ∷ js) st n right)) in
       (tests .0, tests .1)
 
   -- a right list ends with as many values as are counted
-  pub ends-as-counted : (e : ℕ) (is : List Instruction) (st st′ : Stack) (n n′ : Now) → stackRight e (length st) is ≡ true → perform sent st is n ≡ went (ran st′) n′ → length st′ ≡ e
+  pub ends-as-counted : (e : ℕ) (is : List Instruction) (st st′ : Stack) (n n′ : Now) → stackRight e (length st) is ≡ true → perform sendOp st is n ≡ went (ran st′) n′ → length st′ ≡ e
   unfolding stackRight
   ends-as-counted e is st st′ n n′ right w =
       eqb-true (length st′) e (rw w at (goes-on e is [] st n (rw append-nil right)))
 
   -- so does a block: a condition with instructions with one value, every other block with none
-  pub block-ends-as-counted : (c : Chart) (p : Place) (k : Block) (st′ : Stack) (n n′ : Now) → stackUseRight c p k ≡ true → perform sent [] (code c k) n ≡ went (ran st′) n′ → length st′ ≡ endsAt p k
+  pub block-ends-as-counted : (c : Chart) (p : Place) (k : Block) (st′ : Stack) (n n′ : Now) → stackUseRight c p k ≡ true → perform sendOp [] (code c k) n ≡ went (ran st′) n′ → length st′ ≡ endsAt p k
   unfolding stackUseRight
   block-ends-as-counted c p k st′ n n′ right w = ends-as-counted (endsAt p k) (code c k) [] st′ n n′ right w

@@ -16,6 +16,7 @@ use Rattle.rules.specs.Chart as C
 use Rattle.rules.specs.Chart.{State, Segment, Chart, Block, Instruction, states, junctions, segments, variables, events, instructions, parent, kind, initial, entry, during, exit, destination, destinationKind, condition, conditionAction, transitionAction, instruction, code, isOneOf, keepsHistory, endsOnState, children, childrenDown, over}
 use Rattle.rules.specs.Accept as A
 use Rattle.rules.specs.Accept.{opRule, isNone, operandsRight, stateRight, statesRight, segmentRight, everyBlock, blockRight, blocksRight, instructionRight, nothingBarred, isSend, countsRight, chartRefusal}
+use Rattle.rules.specs.Block.{sentTo}
 use Rattle.rules.proofs.Laws.{every-at, both, and-left, and-right, and-both, two, unless-zero}
 use Rattle.rules.proofs.Members.{Mem, mem-every, keep-mem, mem-keep, isIn-mem, upFrom-mem, range-mem, mem-range, downFrom-mem, mem-downFrom, every-below}
 
@@ -268,17 +269,17 @@ named c most (pos s) e = let h = ltb-true s (states c) e in (s, refl, h, omega a
 named c most (negsuc s) e = absurd (false≢true e)
 
 pub sends-to-state : (c : Chart) → states c ≤ 64 → (i : Instruction) → operandsRight c A.anEventAndState i ≡ true
-    → unsigned 2 (i .b) % 256 < states c
+    → sentTo i < states c
 unfolding operandsRight
 sends-to-state c most i e =
     let (s, b, h, q) = named c most (i .b) (and-right (within 1 (events c) (i .a)) _ e) in
     omega arith
 
 pub operand-names : (c : Chart) → states c ≤ 64 → (i : Instruction) → hasOperands c i ≡ true → i .op ≡ C.send
-    → (s : State) × (i .b ≡ pos s) × (s < states c) × (unsigned 2 (i .b) % 256 ≡ s)
+    → (s : State) × (i .b ≡ pos s) × (s < states c) × (sentTo i ≡ s)
 unfolding opRule operandsRight
 operand-names c most i v e = named c most _ (and-right (within 1 (events c) (i .a)) _ (rw e at v))
 
 pub send-names : (c : Chart) → Right c → (i : ℕ) → i < instructions c → instruction c i .op ≡ C.send
-    → (s : State) × (instruction c i .b ≡ pos s) × (s < states c) × (unsigned 2 (instruction c i .b) % 256 ≡ s)
+    → (s : State) × (instruction c i .b ≡ pos s) × (s < states c) × (sentTo (instruction c i) ≡ s)
 send-names c r i h e = operand-names c (tree c r .most) (instruction c i) (right-at c r i h) e

@@ -9,7 +9,7 @@ use native.Mathlib.Omega.{arith}
 use lib.Dec.{eqb}
 use borrow.Author.Tests.{ne-eqb, eqb-false}
 use Rattle.rules.specs.Lists.{any, isIn}
-use Rattle.rules.specs.Chart.{State, Chart, states, deepest, parent, line, over}
+use Rattle.rules.specs.Chart.{State, Chart, states, deepest, parent, lineage, over}
 use Rattle.rules.proofs.Laws.{clash, or-no, if-false}
 use Rattle.rules.proofs.Members.{Mem, isIn-mem, mem-isIn, else-mem, mem-else}
 use Rattle.rules.proofs.Taken.{Child, Tree}
@@ -26,7 +26,7 @@ child-of-parent p h = record { above = p; state = h; of = refl }
 -- s is at least n deep
 abbrev pub Deep : Chart → ℕ → State → Type 0
 Deep c zero s = Unit {0}
-Deep c (suc n) s = isIn 0 (line c n s) ≡ false
+Deep c (suc n) s = isIn 0 (lineage c n s) ≡ false
 
 module _ (c : Chart) (tr : Tree c) where
   pub below-le : {k x : State} → Below c k x → k ≤ x
@@ -52,7 +52,7 @@ module _ (c : Chart) (tr : Tree c) where
   low h = omega arith
 
   pub deep-child : (n : ℕ) {s k : State} → Deep c n s → Child c s k → Deep c (suc n) k
-  unfolding isIn any line
+  unfolding isIn any lineage
   deep-child zero {s} {k} d ch = or-no (eqb 0 k) _ (ne-eqb 0 k (λ q. omega arith)) refl
   deep-child (suc n) {s} {k} d ch =
       or-no (eqb 0 k) _ (ne-eqb 0 k (λ q. omega arith))
@@ -64,8 +64,8 @@ module _ (c : Chart) (tr : Tree c) where
   deep-end n s e h d = clash (tr .depth s h) (rw e at d)
 
   -- to be over a state is to have it below, or to be it
-  line-below : (n : ℕ) (x : State) → x < states c → {k : State} → Mem k (line c n x) → Below c k x
-  unfolding line
+  line-below : (n : ℕ) (x : State) → x < states c → {k : State} → Mem k (lineage c n x) → Below c k x
+  unfolding lineage
   line-below zero x h m = rw (List·Memᴰ·eq-of-singleton m) here
   line-below (suc n) x h {k} m =
       elim (List·Memᴰ·cases-cons m) [
@@ -79,11 +79,11 @@ module _ (c : Chart) (tr : Tree c) where
 
   pub over-below : {k x : State} → x < states c → over c k x ≡ true → Below c k x
   unfolding over
-  over-below {k} {x} h e = line-below deepest x h (isIn-mem k (line c deepest x) e)
+  over-below {k} {x} h e = line-below deepest x h (isIn-mem k (lineage c deepest x) e)
 
   -- a line that comes to the root passes whatever is above
-  below-line : (n : ℕ) {k x : State} → Below c k x → Mem 0 (line c n x) → Mem k (line c n x)
-  unfolding line
+  below-line : (n : ℕ) {k x : State} → Below c k x → Mem 0 (lineage c n x) → Mem k (lineage c n x)
+  unfolding lineage
   below-line zero here r = List·Memᴰ·head refl
   below-line (suc n) here r = List·Memᴰ·head refl
   below-line zero (under {x = x} z h b) r = let e = List·Memᴰ·eq-of-singleton r in absurd (omega arith)
@@ -95,7 +95,7 @@ module _ (c : Chart) (tr : Tree c) where
 
   pub below-over : {k x : State} → x < states c → Below c k x → over c k x ≡ true
   unfolding over
-  below-over {k} {x} h b = mem-isIn k (line c deepest x) (below-line deepest b (isIn-mem 0 (line c deepest x) (tr .depth x h)))
+  below-over {k} {x} h b = mem-isIn k (lineage c deepest x) (below-line deepest b (isIn-mem 0 (lineage c deepest x) (tr .depth x h)))
 
   -- of two states above a third one is above the other
   pub comparable : {a b x : State} → Below c a x → Below c b x → Below c a b ⊎ Below c b a

@@ -114,7 +114,6 @@ module _ (c : Chart) where
       ∷ every (λ v. recordRight "VA" [] (variableAt c v)) (below (variables c))
       ∷ every (λ i. recordRight "IN" [] (instructionAt c i)) (below (instructions c)) ∷ [])
 
-  -- 6
   unfoldable pub parentRight : State → Bool
   parentRight s = if eqb s 0 then eqb (parent c s) 0 else ltb (parent c s) s
 
@@ -136,9 +135,9 @@ module _ (c : Chart) where
   statesRight =
       every stateRight (below (states c)) && every (λ j. ltb (junctionParent c j) (states c)) (below (junctions c))
 
-  -- 7: kind k is a junction's, those below it a state's, which is not the root
+  -- 7: of an end's kinds the last is a junction's, the others are a state's, which is not the root
   unfoldable pub endRight : ℕ → ℕ → ℕ → Bool
-  endRight k kind n = if eqb kind k then ltb n (junctions c) else ltb kind k && ltb 0 n && ltb n (states c)
+  endRight last kind n = if eqb kind last then ltb n (junctions c) else ltb kind last && ltb 0 n && ltb n (states c)
 
   unfoldable pub segmentRight : Segment → Bool
   segmentRight t =
@@ -153,14 +152,12 @@ module _ (c : Chart) where
       (λ t. f inCondition (condition c t) && f inSendingAction (conditionAction c t) && f inAction (transitionAction c t))
       (below (segments c))
 
-  -- 8
   unfoldable pub blockRight : Block → Bool
   blockRight k = if isNone k then eqb (k .start) 0 else leb (k .start + k .count) (instructions c)
 
   unfoldable pub blocksRight : Bool
   blocksRight = everyBlock (λ p k. blockRight k) && every isNone (entry c 0 ∷ during c 0 ∷ exit c 0 ∷ [])
 
-  -- 9
   unfoldable pub anyState : ℤ → Bool
   anyState (pos s) = ltb s (states c)
   anyState (negsuc n) = false
@@ -176,11 +173,9 @@ module _ (c : Chart) where
   unfoldable pub instructionRight : ℕ → Bool
   instructionRight i = operandsRight (opRule (instruction c i .op) .operands) (instruction c i)
 
-  -- 10
   unfoldable pub stackUseRight : Place → Block → Bool
   stackUseRight p k = stackRight (endsAt p k) 0 (code c k)
 
-  -- 11
   unfoldable pub nothingBarred : Place → Block → Bool
   nothingBarred p k = every (λ i. B.not (barred p (opRule (i .op) .effect))) (code c k)
 

@@ -49,28 +49,31 @@ checked f st = if fits (f (lower st) (top st)) then binary f st else refuse 17
 unfoldable pub divided : Stack → Doing Ran → Doing Ran
 divided st m = if isZero (top st) then refuse 17 else m
 
--- the owner is not there any more after a send
+-- the owner is not there any more
 unfoldable pub gone : State → Image → Bool
 gone owner im = B.not (isActive im owner)
 
--- how an event goes to a state
-abbrev pub Sending : Type 0
-Sending = ℕ → State → Done
+-- how an event comes to a state, which is run with it
+abbrev pub Delivery : Type 0
+Delivery = ℕ → State → Done
 
--- a send from a block, and whether the rest of the block is abandoned then
-abbrev pub Sent : Type 0
-Sent = ℕ → State → Doing Bool
+-- what a block's op send does with an event and a state; and whether the rest is abandoned then
+abbrev pub SendOp : Type 0
+SendOp = ℕ → State → Doing Bool
 
 -- where a send is barred
-unfoldable pub noSend : Sent
+unfoldable pub noSend : SendOp
 noSend e b = give false
 
--- if afterwards the owner is gone, the rest is abandoned
-unfoldable pub sentBy : State → Sending → Sent
-sentBy owner sending e b = sending e b >> (look >>= (λ im. give (gone owner im)))
+-- the event is delivered; if afterwards the owner is gone, the rest is abandoned
+unfoldable pub sendFrom : State → Delivery → SendOp
+sendFrom owner deliver e b = deliver e b >> (look >>= (λ im. give (gone owner im)))
 
-module _ (sent : Sent) where
-  -- the state of a send is b, of which one byte is read: in an accepted chart b is below 64
+-- the state that a send names is b, of which one byte is read: in an accepted chart b is below 64
+abbrev pub sentTo : Instruction → State
+sentTo i = unsigned 2 (i .b) % 256
+
+module _ (sendOp : SendOp) where
   unfoldable pub instruct : Op → Instruction → Stack → Doing Ran
   instruct push i st = give (ran (i .b onto st))
   instruct load i st = look >>= (λ im. give (ran (variable im (i .a) onto st)))
@@ -84,7 +87,7 @@ module _ (sent : Sent) where
   instruct equal i st = binary (λ x y. truth (equals x y)) st
   instruct not i st = give (ran (truth (isZero (top st)) onto drop 1 st))
   instruct raise i st = note outputRaised (i .a) >> give (ran st)
-  instruct send i st = sent (i .a) (unsigned 2 (i .b) % 256) >>= (λ b. give (if b then abandoned else ran st))
+  instruct send i st = sendOp (i .a) (sentTo i) >>= (λ b. give (if b then abandoned else ran st))
   instruct unknown i st = give (ran st)
 
   unfoldable pub perform : Stack → List Instruction → Doing Ran
@@ -94,6 +97,9 @@ module _ (sent : Sent) where
     r ← instruct (i .op) i st
     unlessAbandoned r abandoned (λ st′. perform st′ is)
 
--- an action that cannot send
+-- a block that cannot send: an action; and a condition, whose value ends on top (it is never abandoned)
 unfoldable pub action : Chart → Block → Done
 action c k = perform noSend [] (code c k) >> done
+
+unfoldable pub value : Chart → Block → Doing ℤ
+value c k = perform noSend [] (code c k) >>= (λ r. unlessAbandoned r (pos 0) (λ st. give (top st)))

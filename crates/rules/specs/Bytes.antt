@@ -1,5 +1,5 @@
 -- Texts; fields of w bytes, little-endian, the width a parameter; signed values; bits. Assumes nothing.
-use mathlib.Core.Bool.{Bool, true, false, cond}
+use mathlib.Core.Bool.{Bool, true, false}
 use mathlib.Core.List.{List, [], _∷_}
 use Prim.Native.Nat.{ℕ, zero, suc, _+_, _-_, _*_, _/_, _%_, _^_}
 use Prim.Native.Char.{code}
@@ -9,6 +9,7 @@ use lib.ListN.{getD}
 use lib.Seq.{sets}
 use lib.IntN.{ℤ, pos, negsuc, subℕ}
 use lib.Signed.{mag}
+use Rattle.rules.specs.Lists.{if_then_else_}
 
 abbrev pub Bytes : Type 0
 Bytes = List ℕ
@@ -37,7 +38,7 @@ put w b i n = sets b i (bytesOf w n)
 
 -- the signed value of a number of w bytes, and back
 unfoldable pub signed : ℕ → ℕ → ℤ
-signed w n = cond (ltb n (2 ^ (8 * w - 1))) (pos n) (subℕ n (2 ^ (8 * w)))
+signed w n = if ltb n (2 ^ (8 * w - 1)) then pos n else subℕ n (2 ^ (8 * w))
 
 unfoldable pub unsigned : ℕ → ℤ → ℕ
 unsigned w (pos n) = n
@@ -48,10 +49,10 @@ abbrev pub bit : ℕ → ℕ → Bool
 bit b k = eqb (b / 2 ^ k % 2) 1
 
 abbrev pub bitOn : ℕ → ℕ → ℕ
-bitOn b k = cond (bit b k) b (b + 2 ^ k)
+bitOn b k = if bit b k then b else b + 2 ^ k
 
 abbrev pub bitOff : ℕ → ℕ → ℕ
-bitOff b k = cond (bit b k) (b - 2 ^ k) b
+bitOff b k = if bit b k then b - 2 ^ k else b
 
 -- a signed 32-bit value; two that are equal; 0; 1 if so, else 0
 unfoldable pub fits : ℤ → Bool

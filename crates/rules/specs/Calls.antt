@@ -43,23 +43,20 @@ pub record Answer : Type 0 where
 unfoldable pub numberOnly : Refusal → Board → Bytes → Answer
 numberOnly r board trace = record { refusal = r; units = 0; items = 0; bound = 0; board = board; trace = trace }
 
--- fresh, by what its tests gave: 0, or a refusal's number
-unfoldable pub freshTested : ℕ → Chart → Board → ℕ → Answer
-freshTested zero c board k = numberOnly (because 0) (withPart board k (freshImage c)) []
-freshTested (suc r) c board k = numberOnly (because (suc r)) board []
+-- what a call answers by what its tests gave: the refusal of that number, or with 0 the answer of a call that passed them
+unfoldable pub unlessRefused : ℕ → Board → Bytes → Answer → Answer
+unlessRefused zero board trace answer = answer
+unlessRefused (suc r) board trace answer = numberOnly (because (suc r)) board trace
 
 unfoldable pub freshCall : Chart → Board → ℕ → Answer
-freshCall c board k = freshTested (chartRefusal c else partRefusal board k) c board k
-
--- the bound, by what its tests gave
-unfoldable pub boundTested : ℕ → Chart → Answer
-boundTested zero c = record { refusal = because 0; units = 0; items = 0; bound = bound c; board = []; trace = [] }
-boundTested (suc r) c = numberOnly (because (suc r)) [] []
+freshCall c board k =
+    unlessRefused (chartRefusal c else partRefusal board k) board [] (numberOnly (because 0) (withPart board k (freshImage c)) [])
 
 unfoldable pub boundCall : Chart → Answer
-boundCall c = boundTested (chartRefusal c else boundRefusal c) c
+boundCall c =
+    unlessRefused (chartRefusal c else boundRefusal c) [] []
+    (record { refusal = because 0; units = 0; items = 0; bound = bound c; board = []; trace = [] })
 
--- 1 to 15
 unfoldable pub stepRefusal : Chart → Board → ℕ → ℕ → ℕ → ℕ
 stepRefusal c board k e allowance =
     chartRefusal c else partRefusal board k
@@ -87,23 +84,20 @@ stepAnswer board trace k allowance (went u n) =
       trace = itemBytes (n .trace) ++ drop (itemSize * length (n .trace)) trace;
     }
 
--- a step, by what its tests gave
-unfoldable pub stepTested : ℕ → Chart → Board → Bytes → ℕ → ℕ → ℕ → Answer
-stepTested zero c board trace k e allowance =
-    stepAnswer board trace k allowance (step c e (begin (part board k) trace allowance))
-stepTested (suc r) c board trace k e allowance = numberOnly (because (suc r)) board trace
-
 unfoldable pub stepCall : Chart → Board → Bytes → ℕ → ℕ → ℕ → Answer
-stepCall c board trace k e allowance = stepTested (stepRefusal c board k e allowance) c board trace k e allowance
+stepCall c board trace k e allowance =
+    unlessRefused (stepRefusal c board k e allowance) board trace
+    (stepAnswer board trace k allowance (step c e (begin (part board k) trace allowance)))
 
--- what a host has after a call: one number, and its lent bytes
-pub record Left : Type 0 where
+-- what a host observes of a call: one number, and its lent bytes
+pub record Observed : Type 0 where
   pub answer : ℕ
   pub board : Board
   pub trace : Bytes
 
+-- a step has no bound, and the bound no items: their place in the number is one
 unfoldable pub packed : Answer → ℕ
 packed a = a .refusal .number + 256 * (a .items + a .bound) + 131072 * a .units
 
-unfoldable pub left : Answer → Left
-left a = record { answer = packed a; board = a .board; trace = a .trace }
+unfoldable pub observed : Answer → Observed
+observed a = record { answer = packed a; board = a .board; trace = a .trace }

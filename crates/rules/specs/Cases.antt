@@ -12,7 +12,7 @@ use Rattle.rules.specs.Lists.{below, all, keep}
 use Rattle.rules.specs.Chart.{State, Segment, Chart, states, variables}
 use Rattle.rules.specs.Image.{isActive, recorded, variable}
 use Rattle.rules.specs.Bound.{W}
-use Rattle.rules.specs.Calls.{Board, Answer, freshCall, boundCall, stepCall, itemBytes, left}
+use Rattle.rules.specs.Calls.{Board, Answer, freshCall, boundCall, stepCall, itemBytes, observed}
 use Rattle.rules.specs.Session.{session}
 use Rattle.rules.specs.Charts.{none, chartA, backtrack, deadEnd, toItself, shared, sendsFirst, beside, reckons, loop}
 
@@ -83,7 +83,7 @@ holds (imaged c es i v r) =
     eqb (stepCall c (set (boardAfter c es) i v) (lent 1024) 0 1 1000000 .refusal .number) r
 holds (boarded c board n k e allowance r) = eqb (stepCall c board (lent n) k e allowance .refusal .number) r
 holds (leaves a n board trace) =
-    all (eqb (left a .answer) n ∷ same (left a .board) board ∷ same (left a .trace) trace ∷ [])
+    all (eqb (observed a .answer) n ∷ same (observed a .board) board ∷ same (observed a .trace) trace ∷ [])
 holds (says bytes text) = same (session bytes) (ascii text)
 
 -- ── the cases of 'Sessions to check': those marked P, and the others ──

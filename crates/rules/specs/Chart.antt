@@ -193,14 +193,14 @@ module _ (c : Chart) where
   unfoldable pub inner : State → List Segment
   inner s = keep (startsAt 1 s) (below segments)
 
-  unfoldable pub own : Junction → List Segment
-  own j = keep (startsAt 2 j) (below segments)
+  unfoldable pub fromJunction : Junction → List Segment
+  fromJunction j = keep (startsAt 2 j) (below segments)
 
   -- s, its parent and so on, the root last: at most n above s
-  unfoldable pub line : ℕ → State → List State
-  line zero s = s ∷ []
-  line (suc n) s = s ∷ (if eqb s 0 then [] else line n (parent s))
+  unfoldable pub lineage : ℕ → State → List State
+  lineage zero s = s ∷ []
+  lineage (suc n) s = s ∷ (if eqb s 0 then [] else lineage n (parent s))
 
   -- a is s, or is above s
   unfoldable pub over : State → State → Bool
-  over a s = isIn a (line deepest s)
+  over a s = isIn a (lineage deepest s)

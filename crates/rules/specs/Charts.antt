@@ -1,8 +1,9 @@
 -- Charts for the cases, written by their records. Assumes nothing.
 use mathlib.Core.List.{[], _∷_, _++_}
 use Prim.Native.Nat.{ℕ, zero, suc, _+_}
+use lib.ListN.{set}
 use Rattle.rules.specs.Bytes.{Bytes, bytesOf, ascii}
-use Rattle.rules.specs.Chart.{Chart, Block}
+use Rattle.rules.specs.Chart.{Chart, Block, segmentAt}
 
 -- ── records ──
 
@@ -146,6 +147,64 @@ unfoldable pub sendsBoth : Chart
 sendsBoth =
     CH 5 0 2 0 3 1 3 ++ plain 0 2 0 0 ++ ST 0 0 0 0 none (at 0 2) none ++ plain 0 1 3 0 ++ leaf 2 ++ leaf 2
     ++ TR 0 3 0 4 2 none (at 2 1) none ++ bare 0 3 0 4 3 ++ IN 12 2 2 ++ IN 11 1 0 ++ IN 12 3 2
+
+-- 1 and 2 beside each other; 1 leads to itself
+unfoldable pub besideItself : Chart
+besideItself = CH 3 0 1 0 1 0 0 ++ plain 0 2 0 0 ++ leaf 0 ++ leaf 0 ++ bare 0 1 0 1 1
+
+-- 1 leads to itself over a junction of its own
+unfoldable pub roundItself : Chart
+roundItself = CH 2 1 2 0 1 0 0 ++ plain 0 1 1 0 ++ leaf 0 ++ JN 1 ++ bare 0 1 1 0 1 ++ bare 2 0 0 1 0
+
+-- `nested 8`, where the during action of 1 sends to 2, which is inactive
+unfoldable pub nestedBeside : Chart
+nestedBeside =
+    CH 3 1 1 1 1 0 9 ++ plain 0 1 1 0 ++ ST 0 0 0 0 none (at 8 1) none ++ leaf 0 ++ JN 0
+    ++ TR 1 1 1 0 0 (at 0 3) (at 3 5) none ++ VA 0
+    ++ IN 1 0 0 ++ IN 0 0 8 ++ IN 8 0 0 ++ IN 1 0 0 ++ IN 0 0 1 ++ IN 3 0 0 ++ IN 2 0 0 ++ IN 12 1 1 ++ IN 12 1 2
+
+-- on event 1 the inner edge of 1 sends event 2 to its child 2, on which 2 goes to 3, and comes to a dead end
+unfoldable pub otherChild : Chart
+otherChild =
+    CH 4 1 2 0 2 0 1 ++ plain 0 1 1 0 ++ plain 0 1 2 0 ++ leaf 1 ++ leaf 1 ++ JN 1
+    ++ TR 1 1 1 0 1 none (at 0 1) none ++ bare 0 2 0 3 2 ++ IN 12 2 2
+
+-- `backtrack`, where the junction's way on asks for event 2
+unfoldable pub otherEvent : Chart
+otherEvent = set (set backtrack 7 2) (segmentAt backtrack 1 + 6) 2
+
+-- on event 1 over a junction to a dead end, behind which the junction has a way to 2; beside it a way to 3
+unfoldable pub deadBehind : Chart
+deadBehind =
+    CH 4 2 4 0 1 0 0 ++ plain 0 1 1 0 ++ leaf 0 ++ leaf 0 ++ leaf 0 ++ JN 0 ++ JN 0
+    ++ bare 0 1 1 0 1 ++ bare 2 0 1 1 0 ++ bare 2 0 0 2 0 ++ bare 0 1 0 3 1
+
+-- from 2 to 3, both below 1, over a junction of 1's and then one of the root's
+unfoldable pub overBoth : Chart
+overBoth =
+    CH 4 2 3 0 1 0 0 ++ plain 0 1 1 0 ++ plain 0 1 2 0 ++ leaf 1 ++ leaf 1 ++ JN 1 ++ JN 0
+    ++ bare 0 2 1 0 1 ++ bare 2 0 1 1 0 ++ bare 2 1 0 3 0
+
+-- 1 keeps history of 2 and 3, beside it 4. On event 1 state 2 goes to 3, on event 2 state 1 to 4, on event 3 state 4 to 1, on
+-- event 4 state 3 to 1
+unfoldable pub remembers : Chart
+remembers =
+    CH 5 0 4 0 4 0 0 ++ plain 0 1 1 0 ++ plain 0 1 2 1 ++ leaf 1 ++ leaf 1 ++ leaf 0
+    ++ bare 0 2 0 3 1 ++ bare 0 1 0 4 2 ++ bare 0 4 0 1 3 ++ bare 0 3 0 1 4
+
+-- a junction leads to itself while x is below 127, and adds 1 to x
+unfoldable pub countsRound : Chart
+countsRound =
+    CH 2 1 2 1 1 0 7 ++ plain 0 1 1 0 ++ leaf 0 ++ JN 0 ++ bare 0 1 1 0 1 ++ TR 2 0 1 0 0 (at 0 3) (at 3 4) none ++ VA 0
+    ++ IN 1 0 0 ++ IN 0 0 127 ++ IN 8 0 0 ++ IN 1 0 0 ++ IN 0 0 1 ++ IN 3 0 0 ++ IN 2 0 0
+
+-- two junctions that lead to each other; one that leads to itself, and no state to it
+unfoldable pub twoRound : Chart
+twoRound =
+    CH 2 2 3 0 1 0 0 ++ plain 0 1 1 0 ++ leaf 0 ++ JN 0 ++ JN 0 ++ bare 0 1 1 0 1 ++ bare 2 0 1 1 0 ++ bare 2 1 1 0 0
+
+unfoldable pub aloneRound : Chart
+aloneRound = CH 2 1 1 0 1 0 0 ++ plain 0 1 1 0 ++ leaf 0 ++ JN 0 ++ bare 2 0 1 0 0
 
 -- d + 1 states from s + 1 on, each the only child of the one before; the last is a leaf
 unfoldable pub chain : ℕ → ℕ → Bytes

@@ -16,39 +16,49 @@ Image = Bytes
 abbrev pub imageSize : ℕ
 imageSize = 202
 
+-- where the active bits, the history and the variables start
+abbrev pub activeAt : ℕ
+activeAt = 2
+
+abbrev pub historyAt : ℕ
+historyAt = 10
+
+abbrev pub valuesAt : ℕ
+valuesAt = 74
+
 module _ (im : Image) where
   abbrev pub isActive : State → Bool
-  isActive s = bit (byte im (2 + s / 8)) (s % 8)
+  isActive s = bit (byte im (activeAt + s / 8)) (s % 8)
 
   abbrev pub recorded : State → State
-  recorded s = byte im (10 + s)
+  recorded s = byte im (historyAt + s)
 
   abbrev pub variable : ℕ → ℤ
-  variable v = signed 4 (field 4 im (74 + 4 * v))
+  variable v = signed 4 (field 4 im (valuesAt + 4 * v))
 
   -- the image after a change of one place
   abbrev pub activate : State → Image
-  activate s = set im (2 + s / 8) (bitOn (byte im (2 + s / 8)) (s % 8))
+  activate s = set im (activeAt + s / 8) (bitOn (byte im (activeAt + s / 8)) (s % 8))
 
   abbrev pub deactivate : State → Image
-  deactivate s = set im (2 + s / 8) (bitOff (byte im (2 + s / 8)) (s % 8))
+  deactivate s = set im (activeAt + s / 8) (bitOff (byte im (activeAt + s / 8)) (s % 8))
 
   abbrev pub recordChild : State → State → Image
-  recordChild p s = set im (10 + p) s
+  recordChild p s = set im (historyAt + p) s
 
   unfoldable pub setVariable : ℕ → ℤ → Image
-  setVariable v z = put 4 im (74 + 4 * v) (unsigned 4 z)
+  setVariable v z = put 4 im (valuesAt + 4 * v) (unsigned 4 z)
 
   -- the active bits are all zero with all history zero
   unfoldable pub notStarted : Bool
-  notStarted = every (zeroAt im) (range 2 74)
+  notStarted = every (zeroAt im) (range activeAt valuesAt)
 
   module _ (c : Chart) where
     -- places beyond the chart's counts are zero
     unfoldable pub restZero : Bool
     restZero =
         every (λ s. not (isActive s) && eqb (recorded s) 0) (range (states c) mostStates)
-        && every (λ v. eqb (field 4 im (74 + 4 * v)) 0) (range (variables c) mostVariables)
+        && every (λ v. eqb (field 4 im (valuesAt + 4 * v)) 0) (range (variables c) mostVariables)
 
     -- history is 0, or a child of s where s keeps history
     unfoldable pub historySound : State → Bool
@@ -76,4 +86,4 @@ initialBytes c (suc n) = initialBytes c n ++ bytesOf 4 (initialValue c n)
 
 unfoldable pub freshImage : Chart → Image
 freshImage c =
-    ascii "IM" ++ replicate 72 0 ++ initialBytes c (variables c) ++ replicate (4 * (mostVariables - variables c)) 0
+    ascii "IM" ++ replicate (valuesAt - activeAt) 0 ++ initialBytes c (variables c) ++ replicate (4 * (mostVariables - variables c)) 0

@@ -1,5 +1,5 @@
-pub mod Bytes
 pub mod Lists
+pub mod Bytes
 pub mod Chart
 pub mod Accept
 pub mod Image

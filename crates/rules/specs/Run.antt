@@ -6,8 +6,8 @@ use Rattle.rules.specs.Lists.{if_then_else_, first}
 use Rattle.rules.specs.Chart.{State, Chart, during, isOneOf, children, outer, inner, code}
 use Rattle.rules.specs.Image.{isActive, notStarted}
 use Rattle.rules.specs.Doing.{Done, done, refuse, _>>=_, _>>_, look, pay, duringPoint, note, each, whenActive}
-use Rattle.rules.specs.Block.{unlessAbandoned, Sending, sentBy, perform}
-use Rattle.rules.specs.Search.{Found, reached, nowhere, ended, cut, search}
+use Rattle.rules.specs.Block.{unlessAbandoned, Delivery, sendFrom, perform}
+use Rattle.rules.specs.Search.{Found, reached, nowhere, ended, runAbandoned, search}
 use Rattle.rules.specs.Fire.{levels, enter, fire}
 
 module _ (c : Chart) where
@@ -16,9 +16,9 @@ module _ (c : Chart) where
   follow p (reached s path) rest = fire c p s path
   follow p nowhere rest = rest
   follow p ended rest = rest
-  follow p cut rest = done
+  follow p runAbandoned rest = done
 
-  -- the active child of p, or each child that is active when its turn comes
+  -- the active child of p, which an accepted image has (0, the root, is nobody's), or each that is active at its turn
   unfoldable pub runActive : (State → Done) → State → Done
   runActive f p = do
     im ← look
@@ -28,23 +28,23 @@ module _ (c : Chart) where
   unfoldable pub runChildren : (State → Done) → State → Done
   runChildren f p = if isOneOf c p then runActive f p else each (λ s. whenActive s (f s)) (children c p)
 
-  module _ (sending : Sending) (e : ℕ) where
+  module _ (deliver : Delivery) (e : ℕ) where
     -- after the during action: inner segments, then the children
     unfoldable pub runInside : (State → Done) → State → Done
-    runInside f p = search c sending e p (inner c p) >>= (λ o. follow p o (runChildren f p))
+    runInside f p = search c deliver e p (inner c p) >>= (λ o. follow p o (runChildren f p))
 
     -- no outer segment reached a state
     unfoldable pub runDuring : (State → Done) → State → Done
     runDuring f p = do
       note duringPoint p
-      r ← perform (sentBy p sending) [] (code c (during c p))
+      r ← perform (sendFrom p deliver) [] (code c (during c p))
       unlessAbandoned r tt (λ _. runInside f p)
 
     unfoldable pub run : ℕ → State → Done
-    run zero p = done
+    run zero p = done  -- no accepted chart comes here
     run (suc d) p = do
       pay
-      o ← search c sending e p (outer c p)
+      o ← search c deliver e p (outer c p)
       follow p o (runDuring (λ s. run d s) p)
 
   -- an event goes to a state, with n sends more to open at most

@@ -1,6 +1,7 @@
 -- The code's types that carry limits: what a maker makes, and the paper's number for it. Assumes nothing.
-use mathlib.Core.Bool.{Bool, cond}
+use mathlib.Core.Bool.{Bool}
 use Prim.Native.Nat.{ℕ, _*_}
+use Rattle.rules.specs.Lists.{if_then_else_}
 use Rattle.rules.specs.Image.{imageSize}
 use Rattle.rules.specs.Accept.{countsRight}
 use Rattle.rules.specs.Calls.{hasPart}
@@ -15,14 +16,14 @@ fitsOf h =
     countsRight (h .states) (h .junctions) (h .segments) (h .variables) (h .events) (h .outputs) (h .instructions)
 
 abbrev pub madeOf : Header → Made
-madeOf h = cond (fitsOf h) (Of h) Outside
+madeOf h = if fitsOf h then Of h else Outside
 
 unfoldable pub madeNumber : Made → ℕ
 madeNumber (Of h) = 0
 madeNumber Outside = 3
 
 abbrev pub partOf : ℕ → ℕ → Part
-partOf k n = cond (hasPart n k) (At (record { at = imageSize * k })) Missing
+partOf k n = if hasPart n k then At (record { at = imageSize * k }) else Missing
 
 unfoldable pub partNumber : Part → ℕ
 partNumber (At im) = 0

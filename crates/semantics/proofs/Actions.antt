@@ -9,7 +9,7 @@ use Rattle.rules.specs.Chart.{State, Segment, Chart, Block, Instruction, transi
 use Rattle.rules.specs.Accept.{isSend}
 use Rattle.rules.specs.Image.{Image}
 use Rattle.rules.specs.Doing.{Now, pay, transitionPerformed, note, each}
-use Rattle.rules.specs.Block.{Stack, Ran, ran, abandoned, unlessAbandoned, Sent, noSend, instruct, perform, action}
+use Rattle.rules.specs.Block.{Stack, Ran, ran, abandoned, unlessAbandoned, SendOp, noSend, instruct, perform, action}
 use Rattle.rules.specs.Fire.{transit}
 use Rattle.rules.proofs.Laws.{both}
 use Rattle.rules.proofs.Taken.{Tree, Right, Valid, Silent, tree, transitionAction-valid, transition-silent}
@@ -31,11 +31,11 @@ unfolding every
 silent-here i is s = let (here, rest) = both (not (isSend (i .op))) _ s in (not-send (isSend (i .op)) here, rest)
 
 -- A block, by what holds of its instructions: each is 002's action where I holds of the image, and keeps I unless it abandons.
-module _ (c : Chart) (k : ℕ) (p : State) (sent : Sent) (right : Instruction → Bool) (I : Claim)
+module _ (c : Chart) (k : ℕ) (p : State) (sendOp : SendOp) (right : Instruction → Bool) (I : Claim)
     (each-sound : (i : Instruction) (st : Stack) (n n′ : Now) (r : Ran) → right i ≡ true → I (n .image)
-    → Gives (instruct sent (i .op) i st) n r n′ → (c ⊢ R.⇝i k p st i n n′ r) × ((st′ : Stack) → r ≡ ran st′ → I (n′ .image))) where
+    → Gives (instruct sendOp (i .op) i st) n r n′ → (c ⊢ R.⇝i k p st i n n′ r) × ((st′ : Stack) → r ≡ ran st′ → I (n′ .image))) where
   pub block-sound : (st : Stack) (is : List Instruction) (n n′ : Now) (r : Ran) → every right is ≡ true → I (n .image)
-      → Gives (perform sent st is) n r n′ → c ⊢ ⇝a k p st is n n′ r
+      → Gives (perform sendOp st is) n r n′ → c ⊢ ⇝a k p st is n n′ r
   unfolding perform every unlessAbandoned
   block-sound st [] n n′ r v g w = let (x, y) = give-inv w in rw (← x, y) R.Skip
   block-sound st (i ∷ is) n n′ r v g w =
@@ -46,27 +46,27 @@ module _ (c : Chart) (k : ℕ) (p : State) (sent : Sent) (right : Instruction �
       go (b₂ .gave) (b₁ .before) x keeps (b₂ .behind) (λ st′ m u z. block-sound st′ is m n′ r v₂ u z)
     where
       go : (q : Ran) {n₁ n₂ : Now} → Goes pay n n₁ → c ⊢ R.⇝i k p st i n₁ n₂ q → ((st′ : Stack) → q ≡ ran st′ → I (n₂ .image))
-          → Gives (unlessAbandoned q abandoned (λ st′. perform sent st′ is)) n₂ r n′
-          → ((st′ : Stack) (m : Now) → I (m .image) → Gives (perform sent st′ is) m r n′ → c ⊢ ⇝a k p st′ is m n′ r)
+          → Gives (unlessAbandoned q abandoned (λ st′. perform sendOp st′ is)) n₂ r n′
+          → ((st′ : Stack) (m : Now) → I (m .image) → Gives (perform sendOp st′ is) m r n′ → c ⊢ ⇝a k p st′ is m n′ r)
           → c ⊢ ⇝a k p st (i ∷ is) n n′ r
       go (ran st′) pd x keeps z f = R.SeqT pd x (f st′ _ (keeps st′ refl) z)
       go abandoned pd x keeps z f = let (y, e) = give-inv z in rw (← y, ← e) (R.SeqF pd x)
 
 -- and back, for whatever a send does
-module _ (sent : Sent) where
-  pub skip-goes : (st : Stack) {n : Now} → Gives (perform sent st []) n (ran st) n
+module _ (sendOp : SendOp) where
+  pub skip-goes : (st : Stack) {n : Now} → Gives (perform sendOp st []) n (ran st) n
   unfolding perform
   skip-goes st = give-goes
 
   module _ (i : Instruction) (is : List Instruction) (st : Stack) {n n₁ n₂ : Now} (pd : Goes pay n n₁) where
-    pub seq-goes : {st₁ : Stack} {n₃ : Now} {r : Ran} → Gives (instruct sent (i .op) i st) n₁ (ran st₁) n₂
-        → Gives (perform sent st₁ is) n₂ r n₃ → Gives (perform sent st (i ∷ is)) n r n₃
+    pub seq-goes : {st₁ : Stack} {n₃ : Now} {r : Ran} → Gives (instruct sendOp (i .op) i st) n₁ (ran st₁) n₂
+        → Gives (perform sendOp st₁ is) n₂ r n₃ → Gives (perform sendOp st (i ∷ is)) n r n₃
     unfolding perform unlessAbandoned
     seq-goes x y = then-goes pd (bind-goes _ x y)
 
-    pub cut-goes : Gives (instruct sent (i .op) i st) n₁ abandoned n₂ → Gives (perform sent st (i ∷ is)) n abandoned n₂
+    pub seq-abandoned-goes : Gives (instruct sendOp (i .op) i st) n₁ abandoned n₂ → Gives (perform sendOp st (i ∷ is)) n abandoned n₂
     unfolding perform unlessAbandoned
-    cut-goes x = then-goes pd (bind-goes _ x give-goes)
+    seq-abandoned-goes x = then-goes pd (bind-goes _ x give-goes)
 
 module _ (c : Chart) (rt : Right c) where
   tr : Tree c

@@ -15,9 +15,9 @@ use Rattle.rules.specs.Accept.{isSend, opRule}
 use Rattle.rules.specs.Chart.{State, Segment, Chart, Op, Instruction, states, segments, entry, during, exit, transitionAction, isOneOf, children, outer, inner, code}
 use Rattle.rules.specs.Image.{isActive, notStarted, accepted}
 use Rattle.rules.specs.Doing.{Now, Done, pay, duringPoint, note, each, whenActive}
-use Rattle.rules.specs.Block.{Stack, Ran, ran, abandoned, unlessAbandoned, noSend, sentBy, instruct, perform}
-use Rattle.rules.specs.Search.{Found, reached, nowhere, ended, cut, search}
-use Rattle.rules.specs.Fire.{levels, leaveEach, noteLeft, leave, enterEach, enter, arena, transit, fire}
+use Rattle.rules.specs.Block.{Stack, Ran, ran, abandoned, unlessAbandoned, noSend, sendFrom, instruct, perform}
+use Rattle.rules.specs.Search.{Found, reached, nowhere, ended, runAbandoned, search}
+use Rattle.rules.specs.Fire.{levels, leaveEach, parentRecords, leave, enterEach, enter, arena, transit, fire}
 use Rattle.rules.specs.Run.{follow, runActive, runChildren, runInside, runDuring, run, send, start, step}
 use Rattle.rules.proofs.Laws.{both, clash}
 use Rattle.rules.proofs.Members.{Mem, isIn-mem}
@@ -31,13 +31,13 @@ use Rattle.rules.proofs.Accepting.{sound, started-good}
 use Rattle.semantics.specs.Relation as R
 use Rattle.semantics.specs.Relation.{Arrow, _⊢_, Gives, Goes, ActiveChild, Descent, tail, towards, NoState, failed, terminal}
 use Rattle.semantics.proofs.Inverting.{kept, paid, noted, then-goes, bind-goes, give-goes, done-goes, look-goes, yes-goes, no-goes, active-goes, idle-goes, none-goes, more-goes}
-use Rattle.semantics.proofs.Actions.{silent-here, skip-goes, seq-goes, cut-goes, action-goes, transit-goes}
+use Rattle.semantics.proofs.Actions.{silent-here, skip-goes, seq-goes, seq-abandoned-goes, action-goes, transit-goes}
 use Rattle.semantics.proofs.Exits.{from-records, Standing, Remaining, standing-child, standing-first, remaining-rest, left-after, exO-goes, unrecorded-goes, exS1-goes, exA-goes}
 use Rattle.semantics.proofs.Towards.{Towards, on-way, off-way, each-way}
 use Rattle.semantics.proofs.Entries.{all-goes, enO1-goes, enO2-goes, enO3-goes, enter-goes, ready-sound, record-child, no-record, enter-sound}
 use Rattle.semantics.proofs.Sends.{named, plain-goes, send-goes, unsend-goes, ins-kept}
 use Rattle.semantics.proofs.Searching.{passes-goes, along-nothing, noted-kept}
-use Rattle.semantics.proofs.Finding.{Passing, Finds, none-tried, fail-goes, reached-stops, ended-stops, cut-stops, next-goes, nowhere-kept, state-goes, early-goes, junction-goes}
+use Rattle.semantics.proofs.Finding.{Passing, Finds, none-tried, fail-goes, reached-stops, ended-stops, abandoned-stops, next-goes, nowhere-kept, state-goes, early-goes, junction-goes}
 use Rattle.semantics.proofs.Sound.{active-child, standing, transit-sound, searched-kept, during-kept, outer-real, inner-real}
 
 -- the children of p are m levels down; so is each of a list
@@ -50,16 +50,16 @@ At c m ps = (k : State) → Mem k ps → (k < states c) × Deep c m k
 -- what an arrow says of the definitions, m levels down with d to go
 abbrev Meaning : Chart → Arrow → Type 0
 Meaning c (R.⇝i k p st i n n′ r) =
-    (hasOperands c i ≡ true → Going c p (n .image) → Gives (instruct (sentBy p (send c k)) (i .op) i st) n r n′)
+    (hasOperands c i ≡ true → Going c p (n .image) → Gives (instruct (sendFrom p (send c k)) (i .op) i st) n r n′)
     × (isSend (i .op) ≡ false → Gives (instruct noSend (i .op) i st) n r n′)
 Meaning c (R.⇝a k p st is n n′ r) =
-    (every (hasOperands c) is ≡ true → Going c p (n .image) → Gives (perform (sentBy p (send c k)) st is) n r n′)
+    (every (hasOperands c) is ≡ true → Going c p (n .image) → Gives (perform (sendFrom p (send c k)) st is) n r n′)
     × (Silent is → Gives (perform noSend st is) n r n′)
 Meaning c (R.⇝at p path n n′) = Path c path → Goes (each (transit c) path) n n′
 Meaning c (R.⇝t k e p l t n n′ b) = t < segments c → Going c p (n .image) → Passing c k e p l t n n′ b
 Meaning c (R.⇝tl k e p l ts n n′ o) = Finds c k e p l ts n n′ o
 Meaning c (R.⇝exS p n n′) =
-    (d m : ℕ) → m + d ≡ 9 → p < states c → Deep c m p → Standing c p (n .image) → (n″ : Now) → Goes (noteLeft c p) n′ n″
+    (d m : ℕ) → m + d ≡ 9 → p < states c → Deep c m p → Standing c p (n .image) → (n″ : Now) → Goes (parentRecords c p) n′ n″
     → Goes (leave c d p) n n″
 Meaning c (R.⇝exC p n n′) =
     (d m : ℕ) → m + d ≡ 9 → p < states c → Down c m p → Standing c p (n .image) → Goes (leaveEach c (leave c d) p) n n′
@@ -85,8 +85,8 @@ Meaning c (R.⇝Ch e n n′) = accepted (n .image) c ≡ true → Goes (step c e
 not-reached : {h : State} {path : List Segment} → reached h path ≡ ended → ⊥
 not-reached e = let z : _≡_ {A = ℕ} 0 1 = cc in omega arith
 
-not-cut : cut ≡ ended → ⊥
-not-cut e = let z : _≡_ {A = ℕ} 0 1 = cc in omega arith
+not-abandoned : runAbandoned ≡ ended → ⊥
+not-abandoned e = let z : _≡_ {A = ℕ} 0 1 = cc in omega arith
 
 module _ (c : Chart) (rt : Right c) where
   tr : Tree c
@@ -132,9 +132,9 @@ module _ (c : Chart) (rt : Right c) where
     unfolding follow
     follow-state h path m w = w
 
-    follow-cut : (m : Done) {n : Now} → Goes (follow c p cut m) n n
+    follow-abandoned : (m : Done) {n : Now} → Goes (follow c p runAbandoned m) n n
     unfolding follow
-    follow-cut m = done-goes
+    follow-abandoned m = done-goes
 
     -- m levels down, with d to go: never with none
     level : (n n′ : Now) → ((d m : ℕ) → m + d ≡ 9 → Down c m p → Going c p (n .image) → Goes (run c (send c k) e (suc d) p) n n′)
@@ -162,7 +162,7 @@ module _ (c : Chart) (rt : Right c) where
           run-goes o′ pd y (follow-none o′ _ s′ (searched-kept c rt k e p (outer c p) real y g₁) w)
 
       during-goes : (r : Ran) {n n₁ n₂ n₃ : Now} → Goes (note duringPoint p) n n₁
-          → Gives (perform (sentBy p (send c k)) [] (code c (during c p))) n₁ r n₂
+          → Gives (perform (sendFrom p (send c k)) [] (code c (during c p))) n₁ r n₂
           → Goes (unlessAbandoned r tt (λ _. runInside c (send c k) e f p)) n₂ n₃ → Goes (runDuring c (send c k) e f p) n n₃
       unfolding runDuring
       during-goes r i a w = then-goes i (bind-goes _ a w)
@@ -263,14 +263,14 @@ module _ (c : Chart) (rt : Right c) where
         let (v₁, v₂) = here i is v in
         let g₁ = paid (Going c p) pd g in
         let x′ = goes x .0 v₁ g₁ in
-        seq-goes (sentBy p (send c k)) i is st pd x′ (goes y .0 v₂ (ins-kept c rt k p i st (ran st₁) v₁ g₁ x′)),
+        seq-goes (sendFrom p (send c k)) i is st pd x′ (goes y .0 v₂ (ins-kept c rt k p i st (ran st₁) v₁ g₁ x′)),
     λ s. let (ne, rest) = silent-here i is s in seq-goes noSend i is st pd (goes x .1 ne) (goes y .1 rest),
   )
   goes (R.SeqF {k = k} {p = p} {st = st} {i = i} {is = is} pd x) = (
-    λ v g. cut-goes (sentBy p (send c k)) i is st pd (goes x .0 (here i is v .0) (paid (Going c p) pd g)),
-    λ s. cut-goes noSend i is st pd (goes x .1 (silent-here i is s .0)),
+    λ v g. seq-abandoned-goes (sendFrom p (send c k)) i is st pd (goes x .0 (here i is v .0) (paid (Going c p) pd g)),
+    λ s. seq-abandoned-goes noSend i is st pd (goes x .1 (silent-here i is s .0)),
   )
-  goes (R.Skip {k = k} {p = p} {st = st}) = (λ v g. skip-goes (sentBy p (send c k)) st, λ s. skip-goes noSend st)
+  goes (R.Skip {k = k} {p = p} {st = st}) = (λ v g. skip-goes (sendFrom p (send c k)) st, λ s. skip-goes noSend st)
   goes (R.SeqP {t = t} {path = path} i a x) = λ real.
       let done = action-goes c rt (transitionAction c t) (goes a .1 (transition-silent c rt t (real t (List·Memᴰ·head refl)))) in
       transit-goes c rt t path i done (goes x (λ u j. real u (List·Memᴰ·tail j)))
@@ -310,7 +310,7 @@ module _ (c : Chart) (rt : Right c) where
   goes (R.ToE1 {k = k} {e = e} {l = l} {p = p} {t = t} {ts = ts} pd x) = λ m path z q ways g.
       early-goes c rt k e p l t m path ts z q ways pd g (goes x)
   goes (R.ToE2 {k = k} {e = e} {l = l} {p = p} {t = t} {ts = ts} pd x s y) = λ m path z q ways g.
-      junction-goes c rt k e p l t m path ts z q ways pd g cut (goes x) s (goes y) (λ g₂ few. cut-stops c k e p _)
+      junction-goes c rt k e p l t m path ts z q ways pd g runAbandoned (goes x) s (goes y) (λ g₂ few. abandoned-stops c k e p _)
   goes (R.exS1 {p = p} pd x a o i) = λ d m l h deep s n″ r.
       let done = action-goes c rt (exit c p) (goes a .1 (exit-silent c rt p h)) in
       exS1-goes c rt pd (λ d′ m′ l′ down. goes x d′ m′ l′ h down (paid (Standing c p) pd s)) done o i r d m l h deep
@@ -382,14 +382,14 @@ module _ (c : Chart) (rt : Right c) where
   goes (R.runA {k = k} {e = e} {p = p} o x) = λ d m l deep g.
       runA-goes k e p d o (goes x d m l (at-children m p deep) (g .0))
   goes (R.runE1 {k = k} {e = e} {p = p} {n = n} {n₁ = n₁} {n₂ = n₂} pd x) = level k e p n n₂ (λ d m l deep g.
-      run-goes k e p d cut pd (found k e p (outer c p) (outer-real c rt p) n₁ n₂ cut not-cut (goes x) (paid (Going c p) pd g))
-      (follow-cut k e p _))
+      run-goes k e p d runAbandoned pd (found k e p (outer c p) (outer-real c rt p) n₁ n₂ runAbandoned not-abandoned (goes x) (paid (Going c p) pd g))
+      (follow-abandoned k e p _))
   goes (R.runE2 {k = k} {e = e} {p = p} {o = o} {n = n} {n₄ = n₄} pd x s i b) = level k e p n n₄ (λ d m l deep g.
       outer-none k e p d o pd g (goes x) s (λ g₂. during-goes k e p d abandoned i
       (goes b .0 (during-valid c rt p (g .1 .state) .operands) (noted (Going c p) duringPoint p i g₂)) (abandoned-goes k e p d)))
   goes (R.runE3 {k = k} {e = e} {p = p} {o = o} {st = st} {n = n} {n₄ = n₄} {n₅ = n₅} pd x s i b y) =
       level k e p n n₅ (λ d m l deep g. after-during k e p d o pd g (goes x) s i (goes b) (λ g₄.
-      ran-goes k e p d st cut (found k e p (inner c p) (inner-real c rt p) n₄ n₅ cut not-cut (goes y) g₄) (follow-cut k e p _)))
+      ran-goes k e p d st runAbandoned (found k e p (inner c p) (inner-real c rt p) n₄ n₅ runAbandoned not-abandoned (goes y) g₄) (follow-abandoned k e p _)))
   goes (R.Ch {e = e} {n = n} s x) = λ a.
       let g = started-good c (n .image) a s in
       step-goes e s (goes x 9 0 refl tt (g, up-root c rt (n .image) g))

@@ -11,7 +11,7 @@ use Rattle.rules.specs.Chart.{State, Chart, states, initial, entry, isOneOf, ke
 use Rattle.rules.specs.Image.{Image, recorded, activate}
 use Rattle.rules.specs.Doing.{Now, Done, change, pay, stateEntered, note, each}
 use Rattle.rules.specs.Block.{action}
-use Rattle.rules.specs.Fire.{onTheWay, entered, enterEach, enter}
+use Rattle.rules.specs.Fire.{onTheWay, toEnter, enterEach, enter}
 use Rattle.rules.proofs.Laws.{two, clash}
 use Rattle.rules.proofs.Members.{Mem}
 use Rattle.rules.proofs.Taken.{Child, Tree, Right, children-mem, tree, entry-valid, entry-silent}
@@ -36,32 +36,32 @@ else-second a b e = rw e
 
 -- the choice of a child, by the rules that make it
 module _ (c : Chart) (f : State → Done) (h p : State) where
-  entered-goes : {m m′ : Now} → Goes (each f (entered c p h (m .image))) m m′ → Goes (enterEach c f h p) m m′
+  entered-goes : {m m′ : Now} → Goes (each f (toEnter c p h (m .image))) m m′ → Goes (enterEach c f h p) m m′
   unfolding enterEach
   entered-goes w = bind-goes _ look-goes w
 
-  entered-inv : {m m′ : Now} → Goes (enterEach c f h p) m m′ → Goes (each f (entered c p h (m .image))) m m′
+  entered-inv : {m m′ : Now} → Goes (enterEach c f h p) m m′ → Goes (each f (toEnter c p h (m .image))) m m′
   unfolding enterEach
   entered-inv w = let b = bind-inv _ _ w in let (i, e) = look-inv (b .before) in rw (i, e) at (b .behind)
 
   one-goes : (s : State) {m m′ : Now} → isOneOf c p ≡ true → (onTheWay c p h else recorded (m .image) p else initial c p) ≡ s
       → Goes (f s) m m′ → Goes (enterEach c f h p) m m′
-  unfolding entered if_then_else_
+  unfolding toEnter if_then_else_
   one-goes s o e w = entered-goes (rw (o, e) (more-goes f s [] w (none-goes f)))
 
   one-inv : {m m′ : Now} → isOneOf c p ≡ true → Goes (enterEach c f h p) m m′
       → Goes (f (onTheWay c p h else recorded (m .image) p else initial c p)) m m′
-  unfolding entered if_then_else_
+  unfolding toEnter if_then_else_
   one-inv {m} {m′} o w =
       let b = more-inv f _ [] (rw o at (entered-inv w)) in
       rw (sym (none-inv f (b .behind))) (b .before)
 
   pub all-goes : {m m′ : Now} → isOneOf c p ≡ false → Goes (each f (children c p)) m m′ → Goes (enterEach c f h p) m m′
-  unfolding entered if_then_else_
+  unfolding toEnter if_then_else_
   all-goes o w = entered-goes (rw o w)
 
   all-inv : {m m′ : Now} → isOneOf c p ≡ false → Goes (enterEach c f h p) m m′ → Goes (each f (children c p)) m m′
-  unfolding entered if_then_else_
+  unfolding toEnter if_then_else_
   all-inv o w = rw o at (entered-inv w)
 
   pub enO1-goes : {k : State} {m m′ : Now} → isOneOf c p ≡ true → onTheWay c p h ≡ k → 0 < k → Goes (f k) m m′

@@ -12,7 +12,7 @@ use Rattle.rules.specs.Image.{isActive, notStarted, accepted}
 use Rattle.rules.specs.Doing.{Refusal, Now, Outcome, refused, went}
 use Rattle.rules.specs.Fire.{levels}
 use Rattle.rules.specs.Run.{run, send, step}
-use Rattle.rules.specs.Calls.{Board, Answer, part, partRefusal, begin, numberOnly, stepRefusal, stepAnswer, stepTested, stepCall}
+use Rattle.rules.specs.Calls.{Board, Answer, part, partRefusal, begin, numberOnly, stepRefusal, stepAnswer, unlessRefused, stepCall}
 use Rattle.rules.proofs.Laws.{else-zero, unless-zero}
 use Rattle.rules.proofs.Taken.{right}
 use Rattle.rules.proofs.Refusing.{Executing, step-refuses}
@@ -86,7 +86,7 @@ module _ (c : Chart) (board : Board) (trace : Bytes) (k e allowance : ℕ) (z : 
   fits = unless-zero 12 _ _ (else-zero (partRefusal board k) _ (else-zero (chartRefusal c) _ z .1) .1) .0
 
   ends : (o : Outcome (Unit {0})) → step c e before ≡ o → Led ⊎ Stopped
-  unfolding stepCall stepTested stepAnswer
+  unfolding stepCall unlessRefused stepAnswer
   ends (refused r) q = inr (refused-nowhere c taken e before fits r q, r, step-refuses c e before r q, rw (z, q))
   ends (went a n′) q = inl (n′, exactly c taken e before fits n′ .0 (record { is = q }), rw (z, q))
 

@@ -15,7 +15,7 @@ use Rattle.rules.specs.Chart.{State, Chart, states, parent, exit, isOneOf, keep
 use Rattle.rules.specs.Image.{Image, isActive, deactivate, recordChild}
 use Rattle.rules.specs.Doing.{Now, Done, done, give, _>>_, change, pay, Act, stateLeft, note, each, whenActive}
 use Rattle.rules.specs.Block.{action}
-use Rattle.rules.specs.Fire.{leaveEach, noteLeft, leave}
+use Rattle.rules.specs.Fire.{leaveEach, parentRecords, leave}
 use Rattle.rules.proofs.Laws.{two, clash, not-yes}
 use Rattle.rules.proofs.Members.{Mem, isIn-mem, mem-isIn}
 use Rattle.rules.proofs.Distinct.{Distinct}
@@ -51,8 +51,8 @@ module _ (c : Chart) where
   off s = change (λ im. deactivate im s) >> note stateLeft s
 
   -- the record before or after that
-  record-last : (s : State) → s < 64 → (n : Now) → (noteLeft c s >> off s) n ≡ (off s >> noteLeft c s) n
-  unfolding noteLeft change done give if_then_else_
+  record-last : (s : State) → s < 64 → (n : Now) → (parentRecords c s >> off s) n ≡ (off s >> parentRecords c s) n
+  unfolding parentRecords change done give if_then_else_
   record-last s h n =
       elim (two (keepsHistory c (parent c s))) [
         | inl e ↦ rw e (last _ _ stateLeft s (n .image) (n .units) (n .room) (n .trace) (swapped (n .image) (parent c s) s h))
@@ -60,18 +60,18 @@ module _ (c : Chart) where
       ]
 
   -- what a history parent records, from the child and from the parent
-  to-records : {p q : State} {n n′ : Now} → Child c p q → Goes (noteLeft c q) n n′ → Goes (records c p q) n n′
-  unfolding noteLeft
+  to-records : {p q : State} {n n′ : Now} → Child c p q → Goes (parentRecords c q) n n′ → Goes (records c p q) n n′
+  unfolding parentRecords
   to-records {q = q} {n} {n′} ch w = subst (λ (x : State). Goes (records c x q) n n′) (ch .of) w
 
-  pub from-records : {p q : State} {n n′ : Now} → Child c p q → Goes (records c p q) n n′ → Goes (noteLeft c q) n n′
-  unfolding noteLeft
+  pub from-records : {p q : State} {n n′ : Now} → Child c p q → Goes (records c p q) n n′ → Goes (parentRecords c q) n n′
+  unfolding parentRecords
   from-records {q = q} {n} {n′} ch w = subst (λ (x : State). Goes (records c x q) n n′) (sym (ch .of)) w
 
   -- leaving, in 002's order
   leave-goes : (d : ℕ) (s : State) → s < 64 → {n n₁ n₂ n₃ n₄ n₅ n₆ : Now} → Goes pay n n₁
       → Goes (leaveEach c (leave c d) s) n₁ n₂ → Goes (action c (exit c s)) n₂ n₃ → Goes (change (λ im. deactivate im s)) n₃ n₄
-      → Goes (note stateLeft s) n₄ n₅ → Goes (noteLeft c s) n₅ n₆ → Goes (leave c (suc d) s) n n₆
+      → Goes (note stateLeft s) n₄ n₅ → Goes (parentRecords c s) n₅ n₆ → Goes (leave c (suc d) s) n n₆
   unfolding leave
   leave-goes d s h {n₃ = n₃} pd x a o i r =
       then-goes pd (then-goes x (then-goes a (record { is = record-last s h n₃ ∙ then-goes (then-goes o i) r .is })))
@@ -171,13 +171,13 @@ module _ (c : Chart) (rt : Right c) where
   not-recorded : {p k : State} → p < states c → isOneOf c p ≡ false → Child c p k → keepsHistory c (parent c k) ≡ false
   not-recorded h o ch = rw (ch .of) (tr .histories _ h o)
 
-  pub unrecorded-goes : {p k : State} {m : Now} → p < states c → isOneOf c p ≡ false → Child c p k → Goes (noteLeft c k) m m
-  unfolding noteLeft
+  pub unrecorded-goes : {p k : State} {m : Now} → p < states c → isOneOf c p ≡ false → Child c p k → Goes (parentRecords c k) m m
+  unfolding parentRecords
   unrecorded-goes h o ch = no-goes _ _ _ (not-recorded h o ch) done-goes
 
   unrecorded-inv : {p k : State} {m m′ : Now} → p < states c → isOneOf c p ≡ false → Child c p k
-      → Goes (noteLeft c k) m m′ → m ≡ m′
-  unfolding noteLeft
+      → Goes (parentRecords c k) m m′ → m ≡ m′
+  unfolding parentRecords
   unrecorded-inv h o ch w =
       elim (choose-inv _ _ _ w) [ inl (e, v) ↦ clash e (not-recorded h o ch) | inr (e, v) ↦ done-inv v ]
 
@@ -248,7 +248,7 @@ module _ (c : Chart) (rt : Right c) where
 
     -- what leaving k comes to, in 002's rules
     abbrev Exited : State → Now → Now → Type 0
-    Exited k m m′ = (m₁ : Now) × (c ⊢ ⇝exS k m m₁) × Goes (noteLeft c k) m₁ m′
+    Exited k m m′ = (m₁ : Now) × (c ⊢ ⇝exS k m m₁) × Goes (parentRecords c k) m₁ m′
 
     module _ (p : State) (h : p < states c) (deep : (k : State) → Child c p k → Deep c n k)
         (exits : (k : State) → Child c p k → (m m′ : Now) → Standing c k (m .image) → Goes (leave c d k) m m′
@@ -289,7 +289,7 @@ module _ (c : Chart) (rt : Right c) where
       let b₁ = then-inv _ _ w in
       let b₂ = then-inv _ _ (b₁ .behind) in
       let b₃ = then-inv _ _ (b₂ .behind) in
-      let b₄ = then-inv _ (noteLeft c k) (record { is = sym (record-last c k (low c tr h) (b₃ .mid)) ∙ b₃ .behind .is }) in
+      let b₄ = then-inv _ (parentRecords c k) (record { is = sym (record-last c k (low c tr h) (b₃ .mid)) ∙ b₃ .behind .is }) in
       let b₅ = then-inv _ _ (b₄ .before) in
       let deeper : (j : State) → Child c k j → Deep c (suc n) j = λ j ch. deep-child c tr n deep ch in
       let s₁ = paid (Standing c k) (b₁ .before) s in
@@ -309,7 +309,7 @@ module _ (c : Chart) (rt : Right c) where
   pub exS1-goes : {p : State} {n n₁ n₂ n₃ n₄ n₅ n₆ : Now} → Goes pay n n₁
       → ((d m : ℕ) → m + d ≡ 9 → ((k : State) → Child c p k → Deep c m k) → Goes (leaveEach c (leave c d) p) n₁ n₂)
       → Goes (action c (exit c p)) n₂ n₃ → Goes (change (λ im. deactivate im p)) n₃ n₄ → Goes (note stateLeft p) n₄ n₅
-      → Goes (noteLeft c p) n₅ n₆ → (d m : ℕ) → m + d ≡ 9 → p < states c → Deep c m p → Goes (leave c d p) n n₆
+      → Goes (parentRecords c p) n₅ n₆ → (d m : ℕ) → m + d ≡ 9 → p < states c → Deep c m p → Goes (leave c d p) n n₆
   exS1-goes {p} pd x a o i r zero m l h deep = absurd (deep-end c tr m p (omega arith) h deep)
   exS1-goes {p} pd x a o i r (suc d) m l h deep =
       leave-goes c d p (low c tr h) pd (x d (suc m) (omega arith) (λ k ch. deep-child c tr m deep ch)) a o i r

@@ -8,11 +8,11 @@ use lib.Dec.{eqb}
 use borrow.Author.Tests.{ne-eqb}
 use lib.ListN.{length}
 use Rattle.rules.specs.Lists.{if_then_else_}
-use Rattle.rules.specs.Chart.{State, Segment, Chart, segments, conditionAction, destination, endsOnState, own, code}
+use Rattle.rules.specs.Chart.{State, Segment, Chart, segments, conditionAction, destination, endsOnState, fromJunction, code}
 use Rattle.rules.specs.Image.{Image}
 use Rattle.rules.specs.Doing.{Now, Doing, give, pay, segmentPassed, note}
-use Rattle.rules.specs.Block.{Ran, ran, abandoned, unlessAbandoned, sentBy, perform}
-use Rattle.rules.specs.Search.{Found, reached, nowhere, ended, cut, orNext, passes, tries, passed}
+use Rattle.rules.specs.Block.{Ran, ran, abandoned, unlessAbandoned, sendFrom, perform}
+use Rattle.rules.specs.Search.{Found, reached, nowhere, ended, runAbandoned, orNext, passes, tries, passed}
 use Rattle.rules.specs.Run.{send}
 use Rattle.rules.proofs.Laws.{clash}
 use Rattle.rules.proofs.Taken.{Right}
@@ -36,7 +36,7 @@ pub record Passing (c : Chart) (k e : ℕ) (p : State) (l : ℕ) (t : Segment) (
   pub enabled : Gives (passes c e t) n true n₁
   pub few : l < 128
   pub noted : Goes (note segmentPassed t) n₁ n₂
-  pub acted : Gives (perform (sentBy p (send c k)) [] (code c (conditionAction c t))) n₂ how n′
+  pub acted : Gives (perform (sendFrom p (send c k)) [] (code c (conditionAction c t))) n₂ how n′
   pub says : b ≡ finished how
 
 -- what a list comes to, behind any path that leads to it
@@ -55,8 +55,8 @@ module _ (c : Chart) (k e : ℕ) (p : State) where
   abbrev Onward : ℕ → List Segment → Segment → Doing Found
   Onward m path t =
       if endsOnState c t then give (reached (destination c t) (path ++ (t ∷ [])))
-      else if eqb (length (own c (destination c t))) 0 then give ended
-      else Tried c k e p m (path ++ (t ∷ [])) (own c (destination c t))
+      else if eqb (length (fromJunction c (destination c t))) 0 then give ended
+      else Tried c k e p m (path ++ (t ∷ [])) (fromJunction c (destination c t))
 
   module _ (m : ℕ) (path ts : List Segment) (t : Segment) {n n₁ : Now} (pd : Goes pay n n₁) where
     pub fail-goes : {n₂ n₃ : Now} {o : Found} → Gives (passes c e t) n₁ false n₂ → Gives (Tried c k e p m path ts) n₂ o n₃
@@ -71,8 +71,8 @@ module _ (c : Chart) (k e : ℕ) (p : State) where
     try-goes o₁ x y z = then-goes pd (bind-goes _ x (bind-goes _ y z))
 
   passed-goes : (m : ℕ) (path : List Segment) (t : Segment) (how : Ran) {n₁ n₂ n₃ n₄ : Now} {o : Found}
-      → Goes (note segmentPassed t) n₁ n₂ → Gives (perform (sentBy p (send c k)) [] (code c (conditionAction c t))) n₂ how n₃
-      → Gives (unlessAbandoned how cut (λ _. Onward m path t)) n₃ o n₄ → Gives (passed c (send c k) e p (suc m) path t) n₁ o n₄
+      → Goes (note segmentPassed t) n₁ n₂ → Gives (perform (sendFrom p (send c k)) [] (code c (conditionAction c t))) n₂ how n₃
+      → Gives (unlessAbandoned how runAbandoned (λ _. Onward m path t)) n₃ o n₄ → Gives (passed c (send c k) e p (suc m) path t) n₁ o n₄
   unfolding passed
   passed-goes m path t how i a w = then-goes i (bind-goes _ a w)
 
@@ -80,20 +80,20 @@ module _ (c : Chart) (k e : ℕ) (p : State) where
   first-goes : (m l : ℕ) (path ts : List Segment) (t : Segment) {n n₁ n₂ n₃ n₄ : Now} {b : Bool} {o : Found} (o₁ : Found)
       → m + l ≡ 128
       → Goes pay n n₁ → (q : Passing c k e p l t n₁ n₂ b)
-      → ((m′ : ℕ) → m ≡ suc m′ → Gives (unlessAbandoned (q .how) cut (λ _. Onward m′ path t)) n₂ o₁ n₃)
+      → ((m′ : ℕ) → m ≡ suc m′ → Gives (unlessAbandoned (q .how) runAbandoned (λ _. Onward m′ path t)) n₂ o₁ n₃)
       → Gives (orNext o₁ (Tried c k e p m path ts)) n₃ o n₄ → Gives (Tried c k e p m path (t ∷ ts)) n o n₄
   first-goes zero l path ts t o₁ z pd q f w = absurd (omega (arith, q .few))
   first-goes (suc m) l path ts t o₁ z pd q f w =
       try-goes (suc m) path ts t pd o₁ (q .enabled) (passed-goes m path t (q .how) (q .noted) (q .acted) (f m refl)) w
 
   ran-goes : (how : Ran) (m : ℕ) (path : List Segment) (t : Segment) {n n′ : Now} {o : Found} → true ≡ finished how
-      → Gives (Onward m path t) n o n′ → Gives (unlessAbandoned how cut (λ _. Onward m path t)) n o n′
+      → Gives (Onward m path t) n o n′ → Gives (unlessAbandoned how runAbandoned (λ _. Onward m path t)) n o n′
   unfolding unlessAbandoned
   ran-goes (ran st) m path t s w = w
   ran-goes abandoned m path t s w = clash refl s
 
   abandoned-goes : (how : Ran) (m : ℕ) (path : List Segment) (t : Segment) {n : Now} → false ≡ finished how
-      → Gives (unlessAbandoned how cut (λ _. Onward m path t)) n cut n
+      → Gives (unlessAbandoned how runAbandoned (λ _. Onward m path t)) n runAbandoned n
   unfolding unlessAbandoned
   abandoned-goes (ran st) m path t s = clash s refl
   abandoned-goes abandoned m path t s = give-goes
@@ -115,9 +115,9 @@ module _ (c : Chart) (k e : ℕ) (p : State) where
   unfolding orNext
   ended-stops m = give-goes
 
-  pub cut-stops : (m : Doing Found) {n : Now} → Gives (orNext cut m) n cut n
+  pub abandoned-stops : (m : Doing Found) {n : Now} → Gives (orNext runAbandoned m) n runAbandoned n
   unfolding orNext
-  cut-stops m = give-goes
+  abandoned-stops m = give-goes
 
   pub next-goes : (m : Doing Found) {n n′ : Now} {o : Found} → Gives m n o n′ → Gives (orNext nowhere m) n o n′
   unfolding orNext
@@ -137,8 +137,8 @@ module _ (c : Chart) (rt : Right c) (k e : ℕ) (p : State) (l : ℕ) (t : Segme
 
   -- and behind a junction's own list that leads nowhere
   pub nowhere-kept : (path : List Segment) (n n′ : Now) → length path ≡ l → l < 128 → Way c path t → endsOnState c t ≡ false
-      → Going c p (n .image) → Finds c k e p (l + 1) (own c (destination c t)) n n′ nowhere → Going c p (n′ .image)
-  nowhere-kept path n n′ z few way s g x = go (own c (destination c t)) (λ u i. further c rt u way s i) x
+      → Going c p (n .image) → Finds c k e p (l + 1) (fromJunction c (destination c t)) n n′ nowhere → Going c p (n′ .image)
+  nowhere-kept path n n′ z few way s g x = go (fromJunction c (destination c t)) (λ u i. further c rt u way s i) x
     where
       go : (ts : List Segment) → Ways c (path ++ (t ∷ [])) ts → Finds c k e p (l + 1) ts n n′ nowhere → Going c p (n′ .image)
       go [] ways (a, b) = let z : _≡_ {A = ℕ} 0 1 = cc in absurd (omega arith)
@@ -166,23 +166,23 @@ module _ (c : Chart) (rt : Right c) (k e : ℕ) (p : State) (l : ℕ) (t : Segme
         first-goes c k e p m l path ts t _ q pd here
         (λ m′ i. ran-goes c k e p (here .how) m′ path t (here .says) (yes-goes _ _ _ s give-goes)) (reached-stops c k e p _)
 
-    pub early-goes : {n₂ : Now} → Passes n₂ false → Gives (Tried c k e p m path (t ∷ ts)) n cut n₂
+    pub early-goes : {n₂ : Now} → Passes n₂ false → Gives (Tried c k e p m path (t ∷ ts)) n runAbandoned n₂
     early-goes x =
         let here = x (way .real) g₁ in
-        first-goes c k e p m l path ts t cut q pd here
-        (λ m′ i. abandoned-goes c k e p (here .how) m′ path t (here .says)) (cut-stops c k e p _)
+        first-goes c k e p m l path ts t runAbandoned q pd here
+        (λ m′ i. abandoned-goes c k e p (here .how) m′ path t (here .says)) (abandoned-stops c k e p _)
 
     pub junction-goes : (o₁ : Found) {n₂ n₃ n₄ : Now} {o : Found} → Passes n₂ true → endsOnState c t ≡ false
-        → Finds c k e p (l + 1) (own c (destination c t)) n₂ n₃ o₁
+        → Finds c k e p (l + 1) (fromJunction c (destination c t)) n₂ n₃ o₁
         → (Going c p (n₂ .image) → l < 128 → Gives (orNext (along path (along (t ∷ []) o₁)) (Tried c k e p m path ts)) n₃ o n₄)
         → Gives (Tried c k e p m path (t ∷ ts)) n o n₄
     junction-goes o₁ x s y w =
         let here = x (way .real) g₁ in
         let g₂ = passing-kept (way .real) here g₁ in
         let longer = path ++ (t ∷ []) in
-        let beyond : Ways c longer (own c (destination c t)) = λ u j. further c rt u way s j in
+        let beyond : Ways c longer (fromJunction c (destination c t)) = λ u j. further c rt u way s j in
         first-goes c k e p m l path ts t _ q pd here
         (λ m′ i. ran-goes c k e p (here .how) m′ path t (here .says) (no-goes _ _ _ s
         (rw (along-longer path t o₁) at
-        (own-goes c k e p m′ (l + 1) longer (own c (destination c t)) o₁ (one-longer path t z) (omega arith) beyond g₂ y))))
+        (own-goes c k e p m′ (l + 1) longer (fromJunction c (destination c t)) o₁ (one-longer path t z) (omega arith) beyond g₂ y))))
         (w g₂ (here .few))

@@ -10,10 +10,10 @@ use lib.Dec.{eqb}
 use borrow.Author.Tests.{eqb-true, eqb-false, eq-eqb, ne-eqb}
 use lib.ListN.{length, length-append}
 use Rattle.rules.specs.Lists.{if_then_else_}
-use Rattle.rules.specs.Chart.{State, Segment, Chart, states, segments, event, conditionAction, destination, endsOnState, own, code}
+use Rattle.rules.specs.Chart.{State, Segment, Chart, states, segments, event, conditionAction, destination, endsOnState, fromJunction, code}
 use Rattle.rules.specs.Doing.{Now, Doing, give, pay, segmentPassed, note}
 use Rattle.rules.specs.Block.{Ran, ran, abandoned, unlessAbandoned}
-use Rattle.rules.specs.Search.{Found, reached, nowhere, ended, cut, orNext, passes, tries, passed, search}
+use Rattle.rules.specs.Search.{Found, reached, nowhere, ended, runAbandoned, orNext, passes, tries, passed, search}
 use Rattle.rules.specs.Run.{send}
 use Rattle.rules.proofs.Laws.{clash, or-cases, or-left, or-right, or-no}
 use Rattle.rules.proofs.Members.{Mem}
@@ -32,19 +32,19 @@ abbrev pub along : List Segment → Found → Found
 along path (reached d rest) = reached d (path ++ rest)
 along path nowhere = nowhere
 along path ended = ended
-along path cut = cut
+along path runAbandoned = runAbandoned
 
 pub along-longer : (path : List Segment) (t : Segment) (o : Found) → along (path ++ (t ∷ [])) o ≡ along path (along (t ∷ []) o)
 along-longer path t (reached d rest) = ap (reached d) (append-assoc path (t ∷ []) rest)
 along-longer path t nowhere = refl
 along-longer path t ended = refl
-along-longer path t cut = refl
+along-longer path t runAbandoned = refl
 
 pub along-nothing : (o : Found) → along [] o ≡ o
 along-nothing (reached d path) = refl
 along-nothing nowhere = refl
 along-nothing ended = refl
-along-nothing cut = refl
+along-nothing runAbandoned = refl
 
 pub one-longer : (path : List Segment) (t : Segment) {l : ℕ} → length path ≡ l → length (path ++ (t ∷ [])) ≡ l + 1
 one-longer path t e = simp length-append (omega arith)
@@ -113,14 +113,14 @@ module _ (c : Chart) (rt : Right c) (k e : ℕ) (p : State) (h : p < states c) w
   module _ (sound : SendsSound c k) where
     -- how a segment that passes goes on
     data Onward (l : ℕ) (t : Segment) (n n′ : Now) : Found → Type 0 where
-      gone : c ⊢ ⇝t k e p l t n n′ false → Onward l t n n′ cut
+      gone : c ⊢ ⇝t k e p l t n n′ false → Onward l t n n′ runAbandoned
       there : c ⊢ ⇝t k e p l t n n′ true → endsOnState c t ≡ true → Onward l t n n′ (reached (destination c t) (t ∷ []))
       on : {n₁ : Now} (o : Found) → c ⊢ ⇝t k e p l t n n₁ true → endsOnState c t ≡ false
-          → c ⊢ ⇝tl k e p (l + 1) (own c (destination c t)) n₁ n′ o → Onward l t n n′ (along (t ∷ []) o)
+          → c ⊢ ⇝tl k e p (l + 1) (fromJunction c (destination c t)) n₁ n′ o → Onward l t n n′ (along (t ∷ []) o)
 
     next-junction : (l : ℕ) (ts : List Segment) (t : Segment) {n n₁ n₂ n₃ n₄ : Now} (o : Found) → Goes pay n n₁
         → c ⊢ ⇝t k e p l t n₁ n₂ true → endsOnState c t ≡ false
-        → c ⊢ ⇝tl k e p (l + 1) (own c (destination c t)) n₂ n₃ nowhere → Gone c k e p l ts n₃ n₄ o
+        → c ⊢ ⇝tl k e p (l + 1) (fromJunction c (destination c t)) n₂ n₃ nowhere → Gone c k e p l ts n₃ n₄ o
         → c ⊢ ⇝tl k e p l (t ∷ ts) n n₄ o
     next-junction l [] t o pd x j y (a, b) = rw (a, ← b) (R.ToJ3 pd x j y)
     next-junction l (t′ ∷ ts) t o pd x j y z = R.ToJ2 pd x j y z
@@ -134,20 +134,20 @@ module _ (c : Chart) (rt : Right c) (k e : ℕ) (p : State) (h : p < states c) w
         {n₃ n₄ : Now} {o : Found} (rest : Going c p (n₃ .image) → Gives m n₃ o n₄ → Along path (Gone c k e p l ts n₃ n₄) o) where
       -- what a list makes of what its first segment comes to
       beyond : {n₂ : Now} (o₁ : Found) → c ⊢ ⇝t k e p l t n₁ n₂ true → endsOnState c t ≡ false
-          → c ⊢ ⇝tl k e p (l + 1) (own c (destination c t)) n₂ n₃ o₁ → Got c p (along path (along (t ∷ []) o₁)) (n₃ .image)
+          → c ⊢ ⇝tl k e p (l + 1) (fromJunction c (destination c t)) n₂ n₃ o₁ → Got c p (along path (along (t ∷ []) o₁)) (n₃ .image)
           → Gives (orNext (along path (along (t ∷ []) o₁)) m) n₃ o n₄
           → Along path (λ o′. c ⊢ ⇝tl k e p l (t ∷ ts) n n₄ o′) o
       unfolding orNext
       beyond (reached d q) x j y g w = let (a, b) = give-inv w in (reached d (t ∷ q), sym a, rw (← b) (R.ToJ1 pd x j y))
       beyond nowhere x j y g w = let (o′, a, z) = rest g w in (o′, a, next-junction l ts t o′ pd x j y z)
       beyond ended x j y g w = let (a, b) = give-inv w in (ended, sym a, rw (← b) (R.ToJ4 pd x j y))
-      beyond cut x j y g w = let (a, b) = give-inv w in (cut, sym a, rw (← b) (R.ToE2 pd x j y))
+      beyond runAbandoned x j y g w = let (a, b) = give-inv w in (runAbandoned, sym a, rw (← b) (R.ToE2 pd x j y))
 
       answered : {o₁ : Found} → Onward l t n₁ n₃ o₁ → Got c p (along path o₁) (n₃ .image)
           → Gives (orNext (along path o₁) m) n₃ o n₄
           → Along path (λ o′. c ⊢ ⇝tl k e p l (t ∷ ts) n n₄ o′) o
       unfolding orNext
-      answered (gone x) g w = let (a, b) = give-inv w in (cut, sym a, rw (← b) (R.ToE1 pd x))
+      answered (gone x) g w = let (a, b) = give-inv w in (runAbandoned, sym a, rw (← b) (R.ToE1 pd x))
       answered (there x s) g w = let (a, b) = give-inv w in (reached (destination c t) (t ∷ []), sym a, rw (← b) (R.ToS pd x s))
       answered (on o₁ x j y) g w = beyond o₁ x j y g w
 
@@ -205,21 +205,21 @@ module _ (c : Chart) (rt : Right c) (k e : ℕ) (p : State) (h : p < states c) w
     ran-or-not : (l : ℕ) (path : List Segment) (t : Segment) (r : Ran) (m : Doing Found) {n n₁ n₂ n₃ n₄ : Now} {o : Found}
         → Gives (passes c e t) n true n₁ → l < 128 → Goes (note segmentPassed t) n₁ n₂
         → c ⊢ ⇝a k p [] (code c (conditionAction c t)) n₂ n₃ r
-        → Gives (unlessAbandoned r cut (λ _. if endsOnState c t then give (reached (destination c t) (path ++ (t ∷ [])))
-        else if eqb (length (own c (destination c t))) 0 then give ended else m)) n₃ o n₄ → How (Going c p) (Good c) r (n₃ .image)
+        → Gives (unlessAbandoned r runAbandoned (λ _. if endsOnState c t then give (reached (destination c t) (path ++ (t ∷ [])))
+        else if eqb (length (fromJunction c (destination c t))) 0 then give ended else m)) n₃ o n₄ → How (Going c p) (Good c) r (n₃ .image)
         → (endsOnState c t ≡ false → Going c p (n₃ .image) → Gives m n₃ o n₄
-        → Along (path ++ (t ∷ [])) (Gone c k e p (l + 1) (own c (destination c t)) n₃ n₄) o)
+        → Along (path ++ (t ∷ [])) (Gone c k e p (l + 1) (fromJunction c (destination c t)) n₃ n₄) o)
         → Along path (Onward l t n n₄) o
     unfolding unlessAbandoned
     ran-or-not l path t abandoned m x few i a w g f =
-        let (y, z) = give-inv w in (cut, sym y, rw (← z) (gone (R.TrF (passes-inv c e t x) few i a)))
+        let (y, z) = give-inv w in (runAbandoned, sym y, rw (← z) (gone (R.TrF (passes-inv c e t x) few i a)))
     ran-or-not l path t (ran st) m x few i a w g f =
         elim (choose-inv _ _ _ w) [
           | inl (s, v) ↦
               let (y, z) = give-inv v in
               (reached (destination c t) (t ∷ []), sym y, rw (← z) (there (R.TrT (passes-inv c e t x) few i a) s))
           | inr (s, v) ↦
-              let (o′, y, z) = junction (l + 1) (path ++ (t ∷ [])) (own c (destination c t)) m v (f s g) in
+              let (o′, y, z) = junction (l + 1) (path ++ (t ∷ [])) (fromJunction c (destination c t)) m v (f s g) in
               (along (t ∷ []) o′, y ∙ along-longer path t o′, on o′ (R.TrT (passes-inv c e t x) few i a) s z)
         ]
 
@@ -238,7 +238,7 @@ module _ (c : Chart) (rt : Right c) (k e : ℕ) (p : State) (h : p < states c) w
         ran-or-not l path t (b₂ .gave) _ x (omega arith) (b₁ .before) a (b₂ .behind) (acted-kept t (way .real) (b₂ .before) g₂)
         (λ s g₃ v. tries-sound m (l + 1) (path ++ (t ∷ []))
         (passed-sound m (l + 1) (path ++ (t ∷ [])) (one-longer path t z) (omega arith))
-        (own c (destination c t)) (λ u i. further c rt u way s i) (b₂ .mid) n′ o g₃ v)
+        (fromJunction c (destination c t)) (λ u i. further c rt u way s i) (b₂ .mid) n′ o g₃ v)
 
     -- what a state's list comes to: a state, none, or early return
     pub search-sound : (ts : List Segment) → Path c ts → (n n′ : Now) (o : Found) → Going c p (n .image)

@@ -4,16 +4,15 @@ use mathlib.Core.Path.{_≡_, refl, sym, subst, _∙_}
 use mathlib.Core.Logic.{inl, inr}
 use mathlib.Core.Bool.{true, false}
 use mathlib.Core.List.{List}
-use Prim.Native.Nat.{ℕ, zero, suc, _%_, _<_}
+use Prim.Native.Nat.{ℕ, zero, suc, _<_}
 use lib.IntN.{pos}
-use Rattle.rules.specs.Bytes.{unsigned}
 use Rattle.rules.specs.Lists.{if_then_else_, every}
 use Rattle.rules.specs.Chart as C
 use Rattle.rules.specs.Chart.{State, Chart, Op, Instruction, states}
 use Rattle.rules.specs.Accept.{isSend, opRule, operandsRight}
 use Rattle.rules.specs.Image.{Image, isActive}
 use Rattle.rules.specs.Doing.{Now}
-use Rattle.rules.specs.Block.{Stack, Ran, ran, abandoned, gone, Sent, noSend, sentBy, instruct, perform}
+use Rattle.rules.specs.Block.{Stack, Ran, ran, abandoned, gone, SendOp, noSend, sendFrom, sentTo, instruct, perform}
 use Rattle.rules.specs.Fire.{levels}
 use Rattle.rules.specs.Run.{run, send}
 use Rattle.rules.proofs.Laws.{two, clash}
@@ -29,11 +28,11 @@ use Rattle.semantics.proofs.Actions.{block-sound}
 use Rattle.semantics.proofs.Inverting.{kept, then-inv, bind-inv, then-goes, bind-goes, give-inv, give-goes, look-inv, look-goes, refuse-inv, active-inv, idle-inv, active-goes, idle-goes}
 
 -- an op is a send, or it does the same whatever a send does
-data Kind (i : Instruction) (s₁ s₂ : Sent) (st : Stack) : Op → Type 0 where
+data Kind (i : Instruction) (s₁ s₂ : SendOp) (st : Stack) : Op → Type 0 where
   is-send : Kind i s₁ s₂ st C.send
   is-plain : {o : Op} → isSend o ≡ false → instruct s₁ o i st ≡ instruct s₂ o i st → Kind i s₁ s₂ st o
 
-kind-of : (i : Instruction) (s₁ s₂ : Sent) (st : Stack) (o : Op) → Kind i s₁ s₂ st o
+kind-of : (i : Instruction) (s₁ s₂ : SendOp) (st : Stack) (o : Op) → Kind i s₁ s₂ st o
 unfolding instruct isSend opRule
 kind-of i s₁ s₂ st C.push = is-plain {o = C.push} refl refl
 kind-of i s₁ s₂ st C.load = is-plain {o = C.load} refl refl
@@ -103,20 +102,20 @@ module _ (c : Chart) (rt : Right c) where
   module _ (k : ℕ) (p : State) where
     -- an instruction, and a block from one on
     abbrev pub Does : Instruction → Stack → Op → Now → Ran → Now → Type 0
-    Does i st o n r n′ = Gives (instruct (sentBy p (send c k)) o i st) n r n′
+    Does i st o n r n′ = Gives (instruct (sendFrom p (send c k)) o i st) n r n′
 
     abbrev pub Performs : Stack → List Instruction → Now → Ran → Now → Type 0
-    Performs st is n r n′ = Gives (perform (sentBy p (send c k)) st is) n r n′
+    Performs st is n r n′ = Gives (perform (sendFrom p (send c k)) st is) n r n′
 
-    does-send : (i : Instruction) (st : Stack) {b : State} {n n′ : Now} → unsigned 2 (i .b) % 256 ≡ b
+    does-send : (i : Instruction) (st : Stack) {b : State} {n n′ : Now} → sentTo i ≡ b
         → Goes (send c k (i .a) b) n n′ → Does i st C.send n (if isActive (n′ .image) p then ran st else abandoned) n′
-    unfolding instruct sentBy
+    unfolding instruct sendFrom
     does-send i st {n′ = n′} e w =
         rw (e, ← flag p st (n′ .image)) (bind-goes _ (then-goes w (bind-goes _ look-goes give-goes)) give-goes)
 
-    did-send : (i : Instruction) (st : Stack) {b : State} {n n′ : Now} {r : Ran} → unsigned 2 (i .b) % 256 ≡ b
+    did-send : (i : Instruction) (st : Stack) {b : State} {n n′ : Now} {r : Ran} → sentTo i ≡ b
         → Does i st C.send n r n′ → Goes (send c k (i .a) b) n n′ × ((if isActive (n′ .image) p then ran st else abandoned) ≡ r)
-    unfolding instruct sentBy
+    unfolding instruct sendFrom
     did-send i st {n = n} {n′ = n′} {r = r} e w =
         let b₁ = bind-inv _ _ w in
         let b₂ = then-inv _ _ (b₁ .before) in
@@ -126,7 +125,7 @@ module _ (c : Chart) (rt : Right c) where
         let (s, t) = give-inv (b₁ .behind) in
         let m : b₂ .mid ≡ n′ = cc in
         let g : (if gone p (n′ .image) then abandoned else ran st) ≡ r = cc in
-        let to = unsigned 2 (i .b) % 256 in
+        let to = sentTo i in
         let x = subst (λ (y : Now). Goes (send c k (i .a) to) n y) m (b₂ .before) in
         (subst (λ (s : State). Goes (send c k (i .a) s) n n′) e x, sym (flag p st (n′ .image)) ∙ g)
 
@@ -134,9 +133,9 @@ module _ (c : Chart) (rt : Right c) where
     pub ins-kept : (i : Instruction) (st : Stack) {n n′ : Now} (r : Ran) → hasOperands c i ≡ true → Going c p (n .image)
         → Does i st (i .op) n r n′ → How (Going c p) (Good c) r (n′ .image)
     unfolding noSend if_then_else_
-    ins-kept i st {n} {n′} r v g w = go (i .op) refl (kind-of i (sentBy p (send c k)) noSend st (i .op)) w
+    ins-kept i st {n} {n′} r v g w = go (i .op) refl (kind-of i (sendFrom p (send c k)) noSend st (i .op)) w
       where
-        go : (o : Op) → i .op ≡ o → Kind i (sentBy p (send c k)) noSend st o → Does i st o n r n′
+        go : (o : Op) → i .op ≡ o → Kind i (sendFrom p (send c k)) noSend st o → Does i st o n r n′
             → How (Going c p) (Good c) r (n′ .image)
         go o q is-send u =
             let (s, e, h, to) = operand-names c (tr .most) i v q in
@@ -148,19 +147,19 @@ module _ (c : Chart) (rt : Right c) where
             ]
         go o q (is-plain ne same) u =
             let right = subst (λ (x : Op). operandsRight c (opRule x .operands) i ≡ true) q v in
-            kept (t-instruct c tr (Going c p) (Good c) {sent = noSend} (keeps-set c tr (λ im a. a .0 .sound) (going-quiet c rt p))
+            kept (t-instruct c tr (Going c p) (Good c) {sendOp = noSend} (keeps-set c tr (λ im a. a .0 .sound) (going-quiet c rt p))
             (λ never e b l. t-same false) o i st right (λ x. ne)) (rw same at u) g
 
     ins-sound : SendsSound c k → (i : Instruction) (st : Stack) {n n′ : Now} (r : Ran) → hasOperands c i ≡ true
         → Going c p (n .image) → Does i st (i .op) n r n′ → c ⊢ ⇝i k p st i n n′ r
-    ins-sound sound i st {n} {n′} r v g w = go (i .op) refl (kind-of i (sentBy p (send c k)) noSend st (i .op)) w
+    ins-sound sound i st {n} {n′} r v g w = go (i .op) refl (kind-of i (sendFrom p (send c k)) noSend st (i .op)) w
       where
         of-send : (s : State) (j : ℕ) (m m′ : Now) → i .op ≡ C.send → i .b ≡ pos s → Going c p (m .image)
             → Dispatch c j (i .a) s m m′ → c ⊢ ⇝i j p st i m m′ (if isActive (m′ .image) p then ran st else abandoned)
         of-send s j m m′ q e a (sent on x) = R.SendF q e on x
         of-send s j m m′ q e a (unsent off) = rw (there p st (m .image) (a .1 .on)) (R.SendN q e off)
 
-        go : (o : Op) → i .op ≡ o → Kind i (sentBy p (send c k)) noSend st o → Does i st o n r n′
+        go : (o : Op) → i .op ≡ o → Kind i (sendFrom p (send c k)) noSend st o → Does i st o n r n′
             → c ⊢ ⇝i k p st i n n′ r
         go o q is-send u =
             let (s, e, h, to) = operand-names c (tr .most) i v q in
@@ -174,16 +173,16 @@ module _ (c : Chart) (rt : Right c) where
     pub perform-sound : SendsSound c k → (st : Stack) (is : List Instruction) (n n′ : Now) (r : Ran)
         → every (hasOperands c) is ≡ true → Going c p (n .image) → Performs st is n r n′ → c ⊢ ⇝a k p st is n n′ r
     perform-sound sound st is n n′ r v g w =
-        block-sound c k p (sentBy p (send c k)) (hasOperands c) (Going c p)
+        block-sound c k p (sendFrom p (send c k)) (hasOperands c) (Going c p)
         (λ i st n n′ r v g x. (ins-sound sound i st r v g x, λ st′ e. rw e at (ins-kept i st r v g x))) st is n n′ r v g w
 
     -- and back
     pub plain-goes : (i : Instruction) (st : Stack) {n n′ : Now} {r : Ran} → isSend (i .op) ≡ false
         → Gives (instruct noSend (i .op) i st) n r n′ → Does i st (i .op) n r n′
     unfolding isSend opRule
-    plain-goes i st {n} {n′} {r} ne w = go (i .op) ne (kind-of i (sentBy p (send c k)) noSend st (i .op)) w
+    plain-goes i st {n} {n′} {r} ne w = go (i .op) ne (kind-of i (sendFrom p (send c k)) noSend st (i .op)) w
       where
-        go : (o : Op) → isSend o ≡ false → Kind i (sentBy p (send c k)) noSend st o → Gives (instruct noSend o i st) n r n′
+        go : (o : Op) → isSend o ≡ false → Kind i (sendFrom p (send c k)) noSend st o → Gives (instruct noSend o i st) n r n′
             → Does i st o n r n′
         go o q is-send u = clash refl q
         go o q (is-plain x same) u = rw same u
@@ -191,7 +190,7 @@ module _ (c : Chart) (rt : Right c) where
   module _ (k : ℕ) (p b : State) (i : Instruction) (st : Stack) (v : hasOperands c i ≡ true) (q : i .op ≡ C.send)
       (e : i .b ≡ pos b) where
     -- the state that it names
-    pub named : (b < states c) × (unsigned 2 (i .b) % 256 ≡ b)
+    pub named : (b < states c) × (sentTo i ≡ b)
     named =
         let (s, e′, h, to) = operand-names c (tr .most) i v q in
         let same : s ≡ b = cc in

@@ -12,8 +12,8 @@ use Rattle.rules.specs.Lists.{if_then_else_, first}
 use Rattle.rules.specs.Chart.{State, Segment, Chart, states, during, isOneOf, children, outer, inner, code}
 use Rattle.rules.specs.Image.{Image, isActive, notStarted, accepted}
 use Rattle.rules.specs.Doing.{Now, done, pay, duringPoint, note, each, whenActive}
-use Rattle.rules.specs.Block.{Stack, Ran, ran, abandoned, unlessAbandoned, sentBy, perform}
-use Rattle.rules.specs.Search.{Found, reached, nowhere, ended, cut, search}
+use Rattle.rules.specs.Block.{Stack, Ran, ran, abandoned, unlessAbandoned, sendFrom, perform}
+use Rattle.rules.specs.Search.{Found, reached, nowhere, ended, runAbandoned, search}
 use Rattle.rules.specs.Fire.{levels, leaveEach, leave, arena, transit, fire}
 use Rattle.rules.specs.Run.{follow, runActive, runChildren, runInside, runDuring, run, send, start, step}
 use Rattle.rules.proofs.Laws.{two, clash}
@@ -65,7 +65,7 @@ module _ (c : Chart) (rt : Right c) where
 
   -- and behind its during action, where that does not abandon it
   pub during-kept : (k e : ℕ) (p : State) {n n₁ n₂ : Now} {r : Ran} → Goes (note duringPoint p) n n₁
-      → Gives (perform (sentBy p (send c k)) [] (code c (during c p))) n₁ r n₂ → Going c p (n .image)
+      → Gives (perform (sendFrom p (send c k)) [] (code c (during c p))) n₁ r n₂ → Going c p (n .image)
       → How (Going c p) (Good c) r (n₂ .image)
   during-kept k e p i a g =
       let h = g .1 .state in
@@ -116,18 +116,18 @@ abbrev Came : Chart → ℕ → ℕ → State → List Segment → Now → Now �
 Came c k e p ts n n′ (reached h path) = c ⊢ ⇝tl k e p 0 ts n n′ (reached h path)
 Came c k e p ts n n′ nowhere = (o : Found) × (c ⊢ ⇝tl k e p 0 ts n n′ o) × NoState o
 Came c k e p ts n n′ ended = (o : Found) × (c ⊢ ⇝tl k e p 0 ts n n′ o) × NoState o
-Came c k e p ts n n′ cut = c ⊢ ⇝tl k e p 0 ts n n′ cut
+Came c k e p ts n n′ runAbandoned = c ⊢ ⇝tl k e p 0 ts n n′ runAbandoned
 
 came : (c : Chart) (k e : ℕ) (p : State) (ts : List Segment) (n n′ : Now) (o : Found) → Gone c k e p 0 ts n n′ o
     → Came c k e p ts n n′ o
 came c k e p [] n n′ (reached h path) (a, b) = let z : _≡_ {A = ℕ} 0 1 = cc in absurd (omega arith)
 came c k e p [] n n′ nowhere (a, b) = (ended, rw b R.Ter, terminal)
 came c k e p [] n n′ ended (a, b) = (ended, rw b R.Ter, terminal)
-came c k e p [] n n′ cut (a, b) = let z : _≡_ {A = ℕ} 0 1 = cc in absurd (omega arith)
+came c k e p [] n n′ runAbandoned (a, b) = let z : _≡_ {A = ℕ} 0 1 = cc in absurd (omega arith)
 came c k e p (t ∷ ts) n n′ (reached h path) x = x
 came c k e p (t ∷ ts) n n′ nowhere x = (nowhere, x, failed)
 came c k e p (t ∷ ts) n n′ ended x = (ended, x, terminal)
-came c k e p (t ∷ ts) n n′ cut x = x
+came c k e p (t ∷ ts) n n′ runAbandoned x = x
 
 module _ (c : Chart) (rt : Right c) (k : ℕ) (sends : SendsSound c k) (e : ℕ) where
   -- what a state's list of segments comes to
@@ -189,7 +189,7 @@ module _ (c : Chart) (rt : Right c) (k : ℕ) (sends : SendsSound c k) (e : ℕ)
           let f = fire-sound c rt p t path r g w in R.runS2 pd x none i a y (f .exits) (f .acts) (f .down) (f .enters)
       inside nowhere x none i a (o, y, none′) g w = R.runS3 pd x none i a y none′ (children-run p deep g w)
       inside ended x none i a (o, y, none′) g w = R.runS3 pd x none i a y none′ (children-run p deep g w)
-      inside cut x none i a y g w = rw (← done-inv w) (R.runE3 pd x none i a y)
+      inside runAbandoned x none i a y g w = rw (← done-inv w) (R.runE3 pd x none i a y)
 
       acted : {m₂ m₃ m₄ m₅ : Now} {o : Found} (r : Ran) → c ⊢ ⇝tl k e p 0 (outer c p) m₁ m₂ o → NoState o
           → Goes (note duringPoint p) m₂ m₃ → c ⊢ ⇝a k p [] (code c (during c p)) m₃ m₄ r → How (Going c p) (Good c) r (m₄ .image)
@@ -221,7 +221,7 @@ module _ (c : Chart) (rt : Right c) (k : ℕ) (sends : SendsSound c k) (e : ℕ)
           let f = fire-sound c rt p t path r g w in R.runS pd x (f .exits) (f .acts) (f .down) (f .enters)
       followed nowhere (o, x, none) g w = during-runs x none g w
       followed ended (o, x, none) g w = during-runs x none g w
-      followed cut x g w = rw (← done-inv w) (R.runE1 pd x)
+      followed runAbandoned x g w = rw (← done-inv w) (R.runE1 pd x)
 
   pub run-sound : (d n : ℕ) → n + d ≡ 9 → (p : State) → Deep c n p → (m m′ : Now) → Going c p (m .image)
       → Goes (run c (send c k) e d p) m m′ → c ⊢ ⇝runS k e p m m′

@@ -11,7 +11,7 @@ use native.Mathlib.Omega.{arith}
 use lib.Dec.{eqb}
 use borrow.Author.Tests.{eq-eqb, ne-eqb, eqb-true}
 use Rattle.rules.specs.Lists.{if_then_else_, every}
-use Rattle.rules.specs.Chart.{State, Segment, Chart, states, deepest, parent, children, line, over}
+use Rattle.rules.specs.Chart.{State, Segment, Chart, states, deepest, parent, children, lineage, over}
 use Rattle.rules.specs.Fire.{onTheWay, junctionParents, common, arena}
 use Rattle.rules.proofs.Laws.{two, clash, not-yes, and-left}
 use Rattle.rules.proofs.Members.{isIn-mem, mem-isIn, first-mem, first-only, first-none}
@@ -98,7 +98,7 @@ module _ (c : Chart) (rt : Right c) where
       elim (two (eqb p s && eqb p (common c p s path))) [
         | inl e ↦ rw (e, ← eqb-true p s (and-left (eqb p s) _ e)) (parent-above p h)
         | inr e ↦ rw e
-            (elim (first-mem (λ x. over c x s && every (over c x) (junctionParents c path)) (line c deepest p)) [
+            (elim (first-mem (λ x. over c x s && every (over c x) (junctionParents c path)) (lineage c deepest p)) [
               | inl z ↦ rw z (over-below c tr real (tr .depth s real))
               | inr m ↦ over-below c tr real (and-left _ _ (m .1))
             ])

@@ -14,12 +14,12 @@ use lib.Dec.{eqb}
 use lib.IntN.{pos}
 use Rattle.rules.specs.Lists.{if_then_else_, isIn}
 use Rattle.rules.specs.Chart as C
-use Rattle.rules.specs.Chart.{State, Segment, Chart, Instruction, initial, entry, during, exit, destination, event, conditionAction, transitionAction, isOneOf, keepsHistory, endsOnState, children, childrenDown, outer, inner, own, code}
+use Rattle.rules.specs.Chart.{State, Segment, Chart, Instruction, initial, entry, during, exit, destination, event, conditionAction, transitionAction, isOneOf, keepsHistory, endsOnState, children, childrenDown, outer, inner, fromJunction, code}
 use Rattle.rules.specs.Accept.{isSend}
 use Rattle.rules.specs.Image.{Image, isActive, recorded, activate, deactivate, recordChild, notStarted}
 use Rattle.rules.specs.Doing.{Now, went, Doing, Done, done, change, pay, stateEntered, stateLeft, duringPoint, segmentPassed, transitionPerformed, note}
 use Rattle.rules.specs.Block.{Stack, Ran, ran, abandoned, noSend, instruct}
-use Rattle.rules.specs.Search.{Found, reached, nowhere, ended, cut, holds}
+use Rattle.rules.specs.Search.{Found, reached, nowhere, ended, runAbandoned, holds}
 use Rattle.rules.specs.Fire.{arena}
 
 -- the doing m goes from n to n′ and gives a; and where it has nothing to give
@@ -134,19 +134,19 @@ pub data _⊢_ (c : Chart) : Arrow → Type 0 where
       → c ⊢ ⇝tl k e p l (t ∷ ts) n n₂ (reached (destination c t) (t ∷ []))
   ToJ1 : {k e l : ℕ} {p d : State} {t : Segment} {ts path : List Segment} {n n₁ n₂ n₃ : Now}
       → ⟦ Goes pay n n₁ ⟧ → c ⊢ ⇝t k e p l t n₁ n₂ true → endsOnState c t ≡ false
-      → c ⊢ ⇝tl k e p (l + 1) (own c (destination c t)) n₂ n₃ (reached d path)
+      → c ⊢ ⇝tl k e p (l + 1) (fromJunction c (destination c t)) n₂ n₃ (reached d path)
       → c ⊢ ⇝tl k e p l (t ∷ ts) n n₃ (reached d (t ∷ path))
   ToJ2 : {k e l : ℕ} {p : State} {t t′ : Segment} {ts : List Segment} {n n₁ n₂ n₃ n₄ : Now} {o : Found}
       → ⟦ Goes pay n n₁ ⟧ → c ⊢ ⇝t k e p l t n₁ n₂ true → endsOnState c t ≡ false
-      → c ⊢ ⇝tl k e p (l + 1) (own c (destination c t)) n₂ n₃ nowhere → c ⊢ ⇝tl k e p l (t′ ∷ ts) n₃ n₄ o
+      → c ⊢ ⇝tl k e p (l + 1) (fromJunction c (destination c t)) n₂ n₃ nowhere → c ⊢ ⇝tl k e p l (t′ ∷ ts) n₃ n₄ o
       → c ⊢ ⇝tl k e p l (t ∷ t′ ∷ ts) n n₄ o
   ToJ3 : {k e l : ℕ} {p : State} {t : Segment} {n n₁ n₂ n₃ : Now}
       → ⟦ Goes pay n n₁ ⟧ → c ⊢ ⇝t k e p l t n₁ n₂ true → endsOnState c t ≡ false
-      → c ⊢ ⇝tl k e p (l + 1) (own c (destination c t)) n₂ n₃ nowhere
+      → c ⊢ ⇝tl k e p (l + 1) (fromJunction c (destination c t)) n₂ n₃ nowhere
       → c ⊢ ⇝tl k e p l (t ∷ []) n n₃ nowhere
   ToJ4 : {k e l : ℕ} {p : State} {t : Segment} {ts : List Segment} {n n₁ n₂ n₃ : Now}
       → ⟦ Goes pay n n₁ ⟧ → c ⊢ ⇝t k e p l t n₁ n₂ true → endsOnState c t ≡ false
-      → c ⊢ ⇝tl k e p (l + 1) (own c (destination c t)) n₂ n₃ ended
+      → c ⊢ ⇝tl k e p (l + 1) (fromJunction c (destination c t)) n₂ n₃ ended
       → c ⊢ ⇝tl k e p l (t ∷ ts) n n₃ ended
   Ind : {k e l : ℕ} {p : State} {t t′ : Segment} {ts : List Segment} {n n₁ n₂ n₃ : Now} {o : Found}
       → ⟦ Goes pay n n₁ ⟧ → Enb c e t n₁ n₂ false → c ⊢ ⇝tl k e p l (t′ ∷ ts) n₂ n₃ o
@@ -159,11 +159,11 @@ pub data _⊢_ (c : Chart) : Arrow → Type 0 where
       → c ⊢ ⇝tl k e p l [] n n ended
   ToE1 : {k e l : ℕ} {p : State} {t : Segment} {ts : List Segment} {n n₁ n₂ : Now}
       → ⟦ Goes pay n n₁ ⟧ → c ⊢ ⇝t k e p l t n₁ n₂ false
-      → c ⊢ ⇝tl k e p l (t ∷ ts) n n₂ cut
+      → c ⊢ ⇝tl k e p l (t ∷ ts) n n₂ runAbandoned
   ToE2 : {k e l : ℕ} {p : State} {t : Segment} {ts : List Segment} {n n₁ n₂ n₃ : Now}
       → ⟦ Goes pay n n₁ ⟧ → c ⊢ ⇝t k e p l t n₁ n₂ true → endsOnState c t ≡ false
-      → c ⊢ ⇝tl k e p (l + 1) (own c (destination c t)) n₂ n₃ cut
-      → c ⊢ ⇝tl k e p l (t ∷ ts) n n₃ cut
+      → c ⊢ ⇝tl k e p (l + 1) (fromJunction c (destination c t)) n₂ n₃ runAbandoned
+      → c ⊢ ⇝tl k e p l (t ∷ ts) n n₃ runAbandoned
   -- Fig. 7, exit. A leaf counts as an And-composition of no states, here and below
   exS1 : {p : State} {st : Stack} {n n₁ n₂ n₃ n₄ n₅ : Now}
       → ⟦ Goes pay n n₁ ⟧ → c ⊢ ⇝exC p n₁ n₂ → c ⊢ ⇝a 0 p [] (code c (exit c p)) n₂ n₃ (ran st)
@@ -242,7 +242,7 @@ pub data _⊢_ (c : Chart) : Arrow → Type 0 where
       → ⟦ isActive (n .image) p ≡ false ⟧ → c ⊢ ⇝runSL k e ps n n′
       → c ⊢ ⇝runSL k e (p ∷ ps) n n′
   runE1 : {k e : ℕ} {p : State} {n n₁ n₂ : Now}
-      → ⟦ Goes pay n n₁ ⟧ → c ⊢ ⇝tl k e p 0 (outer c p) n₁ n₂ cut
+      → ⟦ Goes pay n n₁ ⟧ → c ⊢ ⇝tl k e p 0 (outer c p) n₁ n₂ runAbandoned
       → c ⊢ ⇝runS k e p n n₂
   runE2 : {k e : ℕ} {p : State} {o : Found} {n n₁ n₂ n₃ n₄ : Now}
       → ⟦ Goes pay n n₁ ⟧ → c ⊢ ⇝tl k e p 0 (outer c p) n₁ n₂ o → NoState o
@@ -251,7 +251,7 @@ pub data _⊢_ (c : Chart) : Arrow → Type 0 where
   runE3 : {k e : ℕ} {p : State} {o : Found} {st : Stack} {n n₁ n₂ n₃ n₄ n₅ : Now}
       → ⟦ Goes pay n n₁ ⟧ → c ⊢ ⇝tl k e p 0 (outer c p) n₁ n₂ o → NoState o
       → ⟦ Goes (note duringPoint p) n₂ n₃ ⟧ → c ⊢ ⇝a k p [] (code c (during c p)) n₃ n₄ (ran st)
-      → c ⊢ ⇝tl k e p 0 (inner c p) n₄ n₅ cut
+      → c ⊢ ⇝tl k e p 0 (inner c p) n₄ n₅ runAbandoned
       → c ⊢ ⇝runS k e p n n₅
   -- the chart, for one event; 01 runs the root as a state
   Ch : {e : ℕ} {n n′ : Now}

@@ -14,7 +14,7 @@ use Rattle.rules.specs.Lists.{if_then_else_, within}
 use Rattle.rules.specs.Chart.{Chart}
 use Rattle.rules.specs.Accept.{marked}
 use Rattle.rules.specs.Doing.{mostUnits}
-use Rattle.rules.specs.Calls.{Board, Answer, freshCall, boundCall, stepCall, Left, left}
+use Rattle.rules.specs.Calls.{Board, Answer, freshCall, boundCall, stepCall, Observed, observed}
 use Rattle.rules.specs.Session.{badSession, stepLine, eventLines, isBad}
 use Rattle.rules.proofs.Laws.{and-left, and-right}
 use Rattle.session.specs.Said.{Line, Told, told, startsWithEvent, Lent, afterEvents, afterChart}
@@ -111,11 +111,11 @@ module _ (c : Chart) (events : Bytes) (at : ℕ) (board : Board) (trace : Bytes)
 -- the chart's own turn: the lift is made fresh and the events follow, or the chart is refused and nothing does
 module _ (c : Chart) (board : Board) (trace events : Bytes) {t : Bool} (own : t ≡ not (within 1 11 (boundCall c .refusal .number))) where
   pub chart-taken : t ≡ true → {r : ℕ} {board′ : Board} {l : Lent}
-      → record { answer = r; board = board′; trace = [] } ≡ left (freshCall c board 0)
+      → record { answer = r; board = board′; trace = [] } ≡ observed (freshCall c board 0)
       → l ≡ afterEvents c board′ trace 0 events → l ≡ afterChart c board trace events
-  unfolding afterChart if_then_else_ left
+  unfolding afterChart if_then_else_ observed
   chart-taken so fresh e =
-      let boards = ap (λ (x : Left). x .board) fresh in
+      let boards = ap (λ (x : Observed). x .board) fresh in
       e ∙ rw (not-true (within 1 11 (boundCall c .refusal .number)) (sym own ∙ so), boards)
 
   pub chart-refused : t ≡ false → record { board = board; trace = trace; lines = 0 } ≡ afterChart c board trace events

@@ -1,6 +1,7 @@
 -- The maker's answer tells what its test said. Assumes nothing.
 use mathlib.Core.Path.{_≡_, refl, sym, _∙_}
-use mathlib.Core.Bool.{Bool, true, false, cond}
+use mathlib.Core.Bool.{Bool, true, false}
+use Rattle.rules.specs.Lists.{if_then_else_}
 use Rattle.rules.specs.declared.headers.Header.{Header}
 use Rattle.rules.specs.declared.headers.Made.the-variants.{Of, Outside}
 use borrow.Author.Needs.{needs}
@@ -8,11 +9,13 @@ use Rattle.checker.proofs.counts_right.Statement.{statement}
 use Rattle.checker.proofs.counts_right.Tie as tie
 
 -- what the maker made tells what its test said
-made : (b : Bool) (h : Header) {x : Header} → cond b (Of h) Outside ≡ Of x → true ≡ b
+made : (b : Bool) (h : Header) {x : Header} → (if b then Of h else Outside) ≡ Of x → true ≡ b
+unfolding if_then_else_
 made true h e = refl
 made false h e = cc
 
-unmade : (b : Bool) (h : Header) → cond b (Of h) Outside ≡ Outside → false ≡ b
+unmade : (b : Bool) (h : Header) → (if b then Of h else Outside) ≡ Outside → false ≡ b
+unfolding if_then_else_
 unmade true h e = cc
 unmade false h e = refl
 

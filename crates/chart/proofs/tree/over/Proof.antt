@@ -4,13 +4,13 @@ use mathlib.Core.Path.{_≡_, refl}
 use borrow.Author.Needs.{needs}
 use native.Mathlib.Omega.{arith}
 use Rattle.rules.specs.Lists.{isIn}
-use Rattle.rules.specs.Chart.{line, over}
+use Rattle.rules.specs.Chart.{lineage, over}
 use Rattle.chart.proofs.Lines.{line-here, line-root, line-up, line-end}
 use Rattle.chart.proofs.tree.over.Statement.{statement}
 use Rattle.chart.proofs.tree.over.Tie as tie
 
 abbrev Inv-loop : tie.InvT-loop
-Inv-loop chart a at₀ left₀ at left = isIn (a .0) (line chart left₀ (at₀ .0)) ≡ isIn (a .0) (line chart left (at .0))
+Inv-loop chart a at₀ left₀ at left = isIn (a .0) (lineage chart left₀ (at₀ .0)) ≡ isIn (a .0) (lineage chart left (at .0))
 
 abbrev μ-loop : tie.MeasureT-loop
 μ-loop chart a at₀ left₀ at left = left

@@ -28,7 +28,7 @@ use Rattle.engine.proofs.cycle.send_from.Reads as send-from
 use Rattle.engine.proofs.cycle.+alone+attempt+block+edge+inside+pass+run+search+send+send_from.Lts-send_from as send-from-lts
 use Rattle.engine.proofs.cycle.+alone+attempt+block+edge+inside+pass+run+search+send+send_from.Proof.Shared.{μ-alone, μ-attempt, μ-block, μ-edge, μ-inside, μ-pass, μ-run, μ-search, μ-send, μ-send-from, alone-at, attempt-at, block-at, edge-at, inside-at, pass-at, run-at, search-at, send-at, send-from-at, alone-calls, attempt-calls, block-calls, edge-calls, inside-calls, pass-calls, run-calls, search-calls, send-calls, send-from-calls}
 use Rattle.engine.proofs.cycle.+alone+attempt+block+edge+inside+pass+run+search+send+send_from.Proof.Sends.{send-is-active-requires, send-same-length, send-returns, send-because-requires, send-same-length-2, send-returns-2, send-sub-run, send-run-requires, send-same-length-3, send-same-length-4, send-returns-3, send-from-pay-requires, send-from-enum-known-paid, send-from-enum-told, send-from-told-requires, send-from-returns, send-from-a-at-requires, send-from-state-at-requires, send-from-send-requires, send-from-gone-requires, send-from-told-requires-2, send-from-same-length, send-from-same-length-2, send-from-returns-2, block-Inv-loop, block-μ-loop, block-returns, block-of-block-requires, block-loop-holds, block-cast-place, block-mul-place, block-is-send-requires, block-send-from-requires, block-enum-known-sent, block-same-length, block-same-length-2, block-returns-2, block-slice-aggregate-paid, block-paid-requires, block-enum-known-performed, block-same-length-3, block-same-length-4, block-returns-3, block-enum-known-performed-2, block-add-k, block-loop-less, block-loop-again, block-same-length-5, block-same-length-6, block-returns-4, pass-passed-requires, pass-note-requires, pass-enum-known-noted, pass-enum-told, pass-told-requires, pass-same-length, pass-returns, pass-condition-action-requires, pass-block-requires, pass-same-length-2, pass-same-length-3, pass-returns-2, attempt-passes-requires, attempt-enum-known-tested, attempt-failed-requires, attempt-same-length, attempt-same-length-2, attempt-returns, attempt-because-requires, attempt-same-length-3, attempt-same-length-4, attempt-returns-2, attempt-pass-requires, attempt-enum-known-acted, attempt-enum-known-acted-2, attempt-enum-known-acted-3, attempt-same-length-5, attempt-same-length-6, attempt-returns-3, attempt-same-length-7, attempt-same-length-8, attempt-returns-4, attempt-same-length-9, attempt-same-length-10, attempt-returns-5}
-use Rattle.engine.proofs.cycle.+alone+attempt+block+edge+inside+pass+run+search+send+send_from.Proof.Searches.{search-Inv-loop, search-μ-loop, search-Inv-search, search-μ-search, search-search-holds, search-loop-holds, search-enum-known-next, search-enum-told, search-attempt-requires, search-enum-known-tried, search-enum-known-tried-2, search-enum-known-tried-3, search-after-requires, search-loop-less, search-loop-again, search-enum-known-tried-4, search-mul-path, search-slice-write-path, search-add-length, search-ends-on-state-requires, search-end-state-requires, search-end-junction-requires, search-own-requires, search-enum-told-2, search-enum-told-3, search-loop-less-2, search-loop-again-2, search-sub-length, search-mul-t33, search-slice-read-t35, search-after-requires-2, search-search-less, search-search-again, search-same-length, search-same-length-2, search-same-length-3, search-returns, search-same-length-4, search-same-length-5, search-same-length-6, search-returns-2, search-same-length-7, search-same-length-8, search-same-length-9, search-returns-3, search-same-length-10, search-same-length-11, search-same-length-12, search-returns-4, search-same-length-13, search-same-length-14, search-same-length-15, search-returns-5}
+use Rattle.engine.proofs.cycle.+alone+attempt+block+edge+inside+pass+run+search+send+send_from.Proof.Searches.{search-Inv-loop, search-μ-loop, search-Inv-search, search-μ-search, search-search-holds, search-loop-holds, search-enum-known-next, search-enum-told, search-attempt-requires, search-enum-known-tried, search-enum-known-tried-2, search-enum-known-tried-3, search-after-requires, search-loop-less, search-loop-again, search-enum-known-tried-4, search-mul-path, search-slice-write-path, search-add-length, search-ends-on-state-requires, search-end-state-requires, search-end-junction-requires, search-from-junction-requires, search-enum-told-2, search-enum-told-3, search-loop-less-2, search-loop-again-2, search-sub-length, search-mul-t33, search-slice-read-t35, search-after-requires-2, search-search-less, search-search-again, search-same-length, search-same-length-2, search-same-length-3, search-returns, search-same-length-4, search-same-length-5, search-same-length-6, search-returns-2, search-same-length-7, search-same-length-8, search-same-length-9, search-returns-3, search-same-length-10, search-same-length-11, search-same-length-12, search-returns-4, search-same-length-13, search-same-length-14, search-same-length-15, search-returns-5}
 use Rattle.engine.proofs.cycle.+alone+attempt+block+edge+inside+pass+run+search+send+send_from.Proof.Follows.{edge-enum-told, edge-returns, edge-enum-told-2, edge-slice-aggregate-search, edge-search-requires, edge-enum-known-found, edge-enum-known-found-2, edge-enum-known-found-3, edge-enum-known-found-4, edge-enum-known-found-5, edge-array-share-prefix-path, edge-slice-aggregate-fire, edge-fire-requires, edge-told-requires, edge-same-length, edge-same-length-2, edge-returns-2, edge-same-length-3, edge-same-length-4, edge-returns-3, edge-same-length-5, edge-same-length-6, edge-returns-4, edge-same-length-7, edge-same-length-8, edge-returns-5, edge-same-length-9, edge-same-length-10, edge-returns-6, inside-during-requires, inside-note-requires, inside-enum-known-noted, inside-enum-told, inside-told-requires, inside-same-length, inside-returns, inside-during-requires-2, inside-block-requires, inside-enum-known-acted, inside-same-length-2, inside-same-length-3, inside-returns-2, inside-inner-requires, inside-edge-requires, inside-same-length-4, inside-same-length-5, inside-returns-3, alone-pay-requires, alone-enum-known-paid, alone-enum-told, alone-told-requires, alone-returns, alone-outer-requires, alone-edge-requires, alone-enum-known-followed, alone-same-length, alone-same-length-2, alone-returns-2, alone-inside-requires, alone-same-length-3, alone-same-length-4, alone-returns-3}
 use Rattle.engine.proofs.cycle.+alone+attempt+block+edge+inside+pass+run+search+send+send_from.Proof.Runs.{run-Inv-loop, run-μ-loop, run-loop-holds, run-alone-requires, run-enum-known-over, run-same-length, run-same-length-2, run-returns, run-enum-known-over-2, run-enum-known-over-3, run-next-requires, run-enum-known-next, run-enum-told, run-same-length-3, run-same-length-4, run-returns-2, run-loop-less, run-loop-again}
 
@@ -232,7 +232,7 @@ pub +alone+attempt+block+edge+inside+pass+run+search+send+send-from-spec : {M : 
     (search-ends-on-state-requires t)
     (search-end-state-requires t)
     (search-end-junction-requires t)
-    (search-own-requires t)
+    (search-from-junction-requires t)
     (search-enum-told-2 t)
     (search-enum-told-3 t)
     (search-loop-less-2 t)

@@ -17,11 +17,11 @@ Inv-loop chart h target path above n i₀ i =
 abbrev μ-loop : tie.MeasureT-loop
 μ-loop chart h target path above n i₀ i = n - i
 
-slice-aggregate-line : tie.Need-slice-aggregate-line Inv-loop μ-loop
-slice-aggregate-line c = search needs
+slice-aggregate-lineage : tie.Need-slice-aggregate-lineage Inv-loop μ-loop
+slice-aggregate-lineage c = search needs
 
-line-requires : tie.Need-line-requires Inv-loop μ-loop
-line-requires c κs = search needs
+lineage-requires : tie.Need-lineage-requires Inv-loop μ-loop
+lineage-requires c κs = search needs
 
 loop-holds : tie.Need-loop-holds Inv-loop μ-loop
 loop-holds c = refl
@@ -37,7 +37,7 @@ over-junctions-requires c κs = search needs
 
 returns : tie.Need-returns Inv-loop μ-loop
 returns c =
-    let r = c .before .before .before .before .before .before .before .line in
+    let r = c .before .before .before .before .before .before .before .lineage in
     first-here _ (common-of (c .before .before .before .before .before .before .before .before .before .before .before .args .chart .now) _ _ _ (r .ensures .1) ∙ c .before .before .before .before .before .loop .inv)
     (next-above _ (r .result) _ (search needs) (c .before .before .before .before .loop-test .taken))
     (rw (sym (c .before .before .before .over .ensures) ∙ c .before .before .if1 .taken) (sym (c .before .over-junctions .ensures) ∙ c .if2 .taken))
@@ -50,13 +50,13 @@ loop-less c = search needs
 
 loop-again : tie.Need-loop-again Inv-loop μ-loop
 loop-again c =
-    first-later _ (c .before .before .before .loop .inv) (next-above _ (c .before .before .before .before .before .line .result) _ (search needs) (c .before .before .loop-test .taken))
+    first-later _ (c .before .before .before .loop .inv) (next-above _ (c .before .before .before .before .before .lineage .result) _ (search needs) (c .before .before .loop-test .taken))
     (⊎-elim (λ w. rw (sym (c .before .over .ensures) ∙ w .0 .taken) (sym (w .1 .ensures) ∙ w .2 .left))
     (λ w. rw (sym (c .before .over .ensures) ∙ w .left)) (c .if1 .came))
 
 returns-2 : tie.Need-returns-2 Inv-loop μ-loop
 returns-2 c =
-    let r = c .before .before .before .line in
+    let r = c .before .before .before .lineage in
     first-none _ (common-of (c .before .before .before .before .before .before .before .args .chart .now) _ _ _ (r .ensures .1) ∙ c .before .loop .inv)
     (none-above _ (r .result) _ (search needs) (c .loop-test .left))
 
@@ -66,8 +66,8 @@ common-spec =
     (tie.spec
     Inv-loop
     μ-loop
-    slice-aggregate-line
-    line-requires
+    slice-aggregate-lineage
+    lineage-requires
     loop-holds
     array-read-t15
     over-requires

@@ -4,7 +4,7 @@ use Prim.Native.Nat.{ℕ, _+_, _*_}
 use native.Mathlib.Omega.{arith}
 use lib.ListN.{length-set}
 use borrow.Author.Needs.{needs}
-use Rattle.engine.proofs.Searching.{Still, still-start, still-within, starts, rest-by-first, kind-read, end-read, own-by-first, at-end, below-goes-on, tried-refused, tried-cut, failed-less, tried-failed, passed-less, passed-short, passed-within, passed-reached, passed-ended, passed-onward}
+use Rattle.engine.proofs.Searching.{Still, still-start, still-within, starts, rest-by-first, kind-read, end-read, own-by-first, at-end, below-goes-on, tried-refused, tried-abandoned, failed-less, tried-failed, passed-less, passed-short, passed-within, passed-reached, passed-ended, passed-onward}
 use Rattle.engine.proofs.cycle.search.Reads as search′
 use Rattle.engine.proofs.cycle.+alone+attempt+block+edge+inside+pass+run+search+send+send_from.Lts-search as search-lts
 use Rattle.engine.proofs.cycle.+alone+attempt+block+edge+inside+pass+run+search+send+send_from.Proof.Shared.{search-at, search-calls}
@@ -78,8 +78,8 @@ search-end-state-requires t c κs = search needs
 pub search-end-junction-requires : (t : ℕ) → search-lts.Need-end-junction-requires (search-calls t) (search-at t) search′.Post search-Inv-loop search-μ-loop search-Inv-search search-μ-search
 search-end-junction-requires t c κs = search needs
 
-pub search-own-requires : (t : ℕ) → search-lts.Need-own-requires (search-calls t) (search-at t) search′.Post search-Inv-loop search-μ-loop search-Inv-search search-μ-search
-search-own-requires t c κs = search needs
+pub search-from-junction-requires : (t : ℕ) → search-lts.Need-from-junction-requires (search-calls t) (search-at t) search′.Post search-Inv-loop search-μ-loop search-Inv-search search-μ-search
+search-from-junction-requires t c κs = search needs
 
 pub search-enum-told-2 : (t : ℕ) → search-lts.Need-enum-told-2 (search-calls t) (search-at t) search′.Post search-Inv-loop search-μ-loop search-Inv-search search-μ-search
 search-enum-told-2 t c = search needs
@@ -92,7 +92,7 @@ search-loop-less-2 t c = passed-less _ _ _ _ (c .before .before .before .before 
 
 pub search-loop-again-2 : (t : ℕ) → search-lts.Need-loop-again-2 (search-calls t) (search-at t) search′.Post search-Inv-loop search-μ-loop search-Inv-search search-μ-search
 search-loop-again-2 t c = passed-onward _ _ _ _ (c .before .before .before .before .before .before .before .before .before .before .before .before .before .before .before .before .before .before .before .loop .inv) (c .before .before .before .before .before .before .before .before .before .before .before .before .before .before .before .before .before .next .given .1) _ _ _ (c .before .before .before .before .before .before .before .before .before .before .before .before .before .attempt .ensures) (c .before .before .before .before .before .before .before .tried4 .given .1) (kind-read (c .before .before .before .before .before .before .before .before .before .before .before .before .before .before .before .before .before .before .before .before .before .before .before .before .before .args .chart .now) _ (c .before .before .before .before .before .before .before .before .before .before .before .before .before .before .before .before .before .next .given .0 .0 .0) (c .before .before .before .before .before .before .before .before .before .before .before .before .before .before .before .before .before .before .before .before .before .before .before .before .before .pre .1 .0) (c .before .before .before .before .before .ends-on-state .ensures) (c .before .before .before .before .if1 .left))
-    (own-by-first (c .before .before .before .before .before .before .before .before .before .before .before .before .before .before .before .before .before .before .before .before .before .before .before .before .before .args .chart .now) _ (c .before .before .before .before .before .before .before .before .before .before .before .before .before .before .before .before .before .next .given .0 .0 .0) (c .before .before .before .before .before .before .before .before .before .before .before .before .before .before .before .before .before .before .before .before .before .before .before .before .before .pre .1 .0) (c .before .before .own .ensures) (c .before .before .before .end-junction .ensures)) (c .enum-told3 .given .1) (c .before .before .before .before .before .before .before .before .before .before .before .before .before .before .before .before .before .before .before .before .search .inv .path ∙ c .before .before .before .before .before .before .before .before .before .before .before .before .before .before .before .before .before .before .before .before .before .before .before .before .before .pre .1 .1)
+    (own-by-first (c .before .before .before .before .before .before .before .before .before .before .before .before .before .before .before .before .before .before .before .before .before .before .before .before .before .args .chart .now) _ (c .before .before .before .before .before .before .before .before .before .before .before .before .before .before .before .before .before .next .given .0 .0 .0) (c .before .before .before .before .before .before .before .before .before .before .before .before .before .before .before .before .before .before .before .before .before .before .before .before .before .pre .1 .0) (c .before .before .from-junction .ensures) (c .before .before .before .end-junction .ensures)) (c .enum-told3 .given .1) (c .before .before .before .before .before .before .before .before .before .before .before .before .before .before .before .before .before .before .before .before .search .inv .path ∙ c .before .before .before .before .before .before .before .before .before .before .before .before .before .before .before .before .before .before .before .before .before .before .before .before .before .pre .1 .1)
     (c .before .before .before .before .before .before .before .before .before .before .before .before .before .attempt .kept .1 .1 .0) (c .before .before .before .before .before .before .before .before .before .before .before .before .before .attempt .kept .1 .1 .1 .0)
 
 pub search-sub-length : (t : ℕ) → search-lts.Need-sub-length (search-calls t) (search-at t) search′.Post search-Inv-loop search-μ-loop search-Inv-search search-μ-search
@@ -138,7 +138,7 @@ search-same-length-6 t c = search needs
 
 pub search-returns-2 : (t : ℕ) → search-lts.Need-returns-2 (search-calls t) (search-at t) search′.Post search-Inv-loop search-μ-loop search-Inv-search search-μ-search
 search-returns-2 t c = let still = still-within _ _ _ _ (c .before .before .before .before .before .before .before .before .before .before .before .before .before .before .search .inv) (c .before .before .before .before .before .before .before .before .before .before .before .before .before .loop .inv) in
-    (tried-cut _ _ _ _ still (c .before .before .before .before .before .before .before .before .before .before .before .next .given .1) _ _ _ (c .before .before .before .before .before .before .before .attempt .ensures) (c .before .tried2 .given .1) ∙ starts _ _ _ _ _ _ _ _ _, omega arith)
+    (tried-abandoned _ _ _ _ still (c .before .before .before .before .before .before .before .before .before .before .before .next .given .1) _ _ _ (c .before .before .before .before .before .before .before .attempt .ensures) (c .before .tried2 .given .1) ∙ starts _ _ _ _ _ _ _ _ _, omega arith)
 
 pub search-same-length-7 : (t : ℕ) → search-lts.Need-same-length-7 (search-calls t) (search-at t) search′.Post search-Inv-loop search-μ-loop search-Inv-search search-μ-search
 search-same-length-7 t c = search needs
@@ -168,7 +168,7 @@ search-same-length-12 t c = length-set (c .before .before .before .before .befor
 pub search-returns-4 : (t : ℕ) → search-lts.Need-returns-4 (search-calls t) (search-at t) search′.Post search-Inv-loop search-μ-loop search-Inv-search search-μ-search
 search-returns-4 t c = let still = still-within _ _ _ _ (c .before .before .before .before .before .before .before .before .before .before .before .before .before .before .before .before .before .before .before .before .search .inv) (c .before .before .before .before .before .before .before .before .before .before .before .before .before .before .before .before .before .before .before .loop .inv) in (
   passed-ended _ _ _ _ still (c .before .before .before .before .before .before .before .before .before .before .before .before .before .before .before .before .before .next .given .1) _ _ _ (c .before .before .before .before .before .before .before .before .before .before .before .before .before .attempt .ensures) (c .before .before .before .before .before .before .before .tried4 .given .1) (kind-read (c .before .before .before .before .before .before .before .before .before .before .before .before .before .before .before .before .before .before .before .before .before .before .before .before .before .args .chart .now) _ (c .before .before .before .before .before .before .before .before .before .before .before .before .before .before .before .before .before .next .given .0 .0 .0) (c .before .before .before .before .before .before .before .before .before .before .before .before .before .before .before .before .before .before .before .before .before .before .before .before .before .pre .1 .0) (c .before .before .before .before .before .ends-on-state .ensures) (c .before .before .before .before .if1 .left))
-      (own-by-first (c .before .before .before .before .before .before .before .before .before .before .before .before .before .before .before .before .before .before .before .before .before .before .before .before .before .args .chart .now) _ (c .before .before .before .before .before .before .before .before .before .before .before .before .before .before .before .before .before .next .given .0 .0 .0) (c .before .before .before .before .before .before .before .before .before .before .before .before .before .before .before .before .before .before .before .before .before .before .before .before .before .pre .1 .0) (c .before .before .own .ensures) (c .before .before .before .end-junction .ensures)) (c .enum-told2 .given .1) ∙ starts _ _ _ _ _ _ _ _ _,
+      (own-by-first (c .before .before .before .before .before .before .before .before .before .before .before .before .before .before .before .before .before .before .before .before .before .before .before .before .before .args .chart .now) _ (c .before .before .before .before .before .before .before .before .before .before .before .before .before .before .before .before .before .next .given .0 .0 .0) (c .before .before .before .before .before .before .before .before .before .before .before .before .before .before .before .before .before .before .before .before .before .before .before .before .before .pre .1 .0) (c .before .before .from-junction .ensures) (c .before .before .before .end-junction .ensures)) (c .enum-told2 .given .1) ∙ starts _ _ _ _ _ _ _ _ _,
   omega arith,
 )
 

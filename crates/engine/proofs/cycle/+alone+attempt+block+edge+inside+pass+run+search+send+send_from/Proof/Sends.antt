@@ -7,7 +7,7 @@ use borrow.Author.Needs.{needs}
 use borrow.Author.Tests.{not-true, not-false}
 use Rattle.rules.specs.Lists.{if_then_else_}
 use Rattle.rules.specs.Doing.{give, _>>_, segmentPassed}
-use Rattle.rules.specs.Block.{sentBy}
+use Rattle.rules.specs.Block.{sendFrom}
 use Rattle.rules.specs.Run as the-rules
 use Rattle.rules.proofs.Spending.{note-spends}
 use Rattle.doing.specs.Held.{nowOf}
@@ -114,7 +114,7 @@ send-from-returns-2 t c =
 
 abbrev pub block-Inv-loop : block-lts.InvT-loop
 block-Inv-loop chart h image₀ trace₀ sends owner cells₀ part left₀ taken₀ k₀ k-end image trace cells left taken k =
-    Acting (sentBy (owner .0) (the-rules.send chart sends)) part k-end image₀ trace₀ left₀ k₀ (stackOf cells₀ taken₀) image trace left k cells taken
+    Acting (sendFrom (owner .0) (the-rules.send chart sends)) part k-end image₀ trace₀ left₀ k₀ (stackOf cells₀ taken₀) image trace left k cells taken
 
 abbrev pub block-μ-loop : block-lts.MeasureT-loop
 block-μ-loop chart h image₀ trace₀ sends owner cells₀ part left₀ taken₀ k₀ k-end image trace cells left taken k = k-end - k

@@ -16,7 +16,7 @@ use Rattle.chart.proofs.segments.end_state.Reads as end-state-reads
 use Rattle.chart.proofs.segments.ends_on_state.Reads as ends-on-state-reads
 use Rattle.chart.proofs.segments.inner.Reads as inner-reads
 use Rattle.chart.proofs.segments.outer.Reads as outer-reads
-use Rattle.chart.proofs.segments.own.Reads as own-reads
+use Rattle.chart.proofs.segments.from_junction.Reads as from-junction-reads
 use Rattle.chart.proofs.states.during.Reads as states-during-reads
 use Rattle.image.proofs.active.is_active.Reads as is-active-reads
 use Rattle.doing.proofs.Refusal.because.Reads as because-reads
@@ -173,7 +173,7 @@ abbrev pub run-calls : ℕ → run-lts.Claims
 run-calls t = (alone-below t, alone.Post, next-reads.Asked, next-reads.Learnt)
 
 abbrev pub search-calls : ℕ → search-lts.Claims
-search-calls t = (attempt-below t, attempt.Post, after-reads.Asked, after-reads.Learnt, ends-on-state-reads.Asked, ends-on-state-reads.Learnt, end-state-reads.Asked, end-state-reads.Learnt, end-junction-reads.Asked, end-junction-reads.Learnt, own-reads.Asked, own-reads.Learnt)
+search-calls t = (attempt-below t, attempt.Post, after-reads.Asked, after-reads.Learnt, ends-on-state-reads.Asked, ends-on-state-reads.Learnt, end-state-reads.Asked, end-state-reads.Learnt, end-junction-reads.Asked, end-junction-reads.Learnt, from-junction-reads.Asked, from-junction-reads.Learnt)
 
 abbrev pub send-calls : ℕ → send-lts.Claims
 send-calls t = (is-active-reads.Asked, is-active-reads.Learnt, because-reads.Asked, because-reads.Learnt, run-below t, run.Post)

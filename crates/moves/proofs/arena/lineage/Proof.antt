@@ -5,15 +5,15 @@ use Prim.Native.Nat.{_-_, _≤_}
 use native.Mathlib.Omega.{arith}
 use borrow.Author.Needs.{needs}
 use lib.ListN.{length, take}
-use Rattle.rules.specs.Chart.{deepest, line}
+use Rattle.rules.specs.Chart.{deepest, lineage}
 use Rattle.moves.proofs.Lowest.{root-written, last-written, one-written}
-use Rattle.moves.proofs.arena.line.Statement.{statement}
-use Rattle.moves.proofs.arena.line.Tie as tie
+use Rattle.moves.proofs.arena.lineage.Statement.{statement}
+use Rattle.moves.proofs.arena.lineage.Tie as tie
 
 abbrev Inv-loop : tie.InvT-loop
 Inv-loop chart places₀ at₀ n₀ places at n =
     (length places ≡ length places₀) × (n ≤ deepest)
-    × (take n places ++ line chart (deepest - n) (at .0) ≡ line chart deepest (at₀ .0))
+    × (take n places ++ lineage chart (deepest - n) (at .0) ≡ lineage chart deepest (at₀ .0))
 
 abbrev μ-loop : tie.MeasureT-loop
 μ-loop chart places₀ at₀ n₀ places at n = deepest - n
@@ -74,8 +74,8 @@ returns-2 c =
           (omega arith) (l .inv .2) (c .loop-test .left),
     )
 
-pub line-spec : {M : Type 1} → statement M
-line-spec =
+pub lineage-spec : {M : Type 1} → statement M
+lineage-spec =
     tie.close
     (tie.spec
     Inv-loop
