@@ -1,6 +1,6 @@
 pub mod Parts
 pub mod Ranges
-pub mod Lines
+pub mod Lineages
 pub mod Firsts
 pub mod Own
 pub mod Sends

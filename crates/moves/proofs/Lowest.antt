@@ -1,5 +1,5 @@
--- The lowest state above a source, a target and a path's junctions, as the code finds it: the line of a state, written place
--- by place; the junctions of a path, tested end by end; and the places of the line, looked through one by one. Assumes nothing.
+-- The lowest state above a source, a target and a path's junctions, as the code finds it: the lineage of a state, written place
+-- by place; the junctions of a path, tested end by end; and the places of the lineage, looked through one by one. Assumes nothing.
 use mathlib.Core.Path.{_≡_, refl, sym, ap, _∙_}
 use mathlib.Core.Bool.{Bool, true, false, _&&_}
 use mathlib.Core.List.{List, [], _∷_, _++_}
@@ -15,21 +15,21 @@ use Rattle.rules.specs.Fire.{junctionParents, common}
 use Rattle.moves.specs.Steps.{overEnd}
 use Rattle.moves.proofs.Follows.{less-one, next-at}
 
--- a line by its lowest state: the root, another, the last that may be
+-- a lineage by its lowest state: the root, another, the last that may be
 module _ (c : Chart) (at : State) where
-  line-of-root : (left : ℕ) → at ≡ 0 → lineage c left at ≡ at ∷ []
+  lineage-of-root : (left : ℕ) → at ≡ 0 → lineage c left at ≡ at ∷ []
   unfolding lineage if_then_else_
-  line-of-root zero q = refl
-  line-of-root (suc n) q = rw (eq-eqb at 0 q)
+  lineage-of-root zero q = refl
+  lineage-of-root (suc n) q = rw (eq-eqb at 0 q)
 
-  line-of-child : (left : ℕ) → 0 < left → (at ≡ 0 → ⊥) → lineage c left at ≡ at ∷ lineage c (left - 1) (parent c at)
+  lineage-of-child : (left : ℕ) → 0 < left → (at ≡ 0 → ⊥) → lineage c left at ≡ at ∷ lineage c (left - 1) (parent c at)
   unfolding lineage if_then_else_
-  line-of-child zero h d = absurd (omega arith)
-  line-of-child (suc n) h d = rw (ne-eqb at 0 d, less-one)
+  lineage-of-child zero h d = absurd (omega arith)
+  lineage-of-child (suc n) h d = rw (ne-eqb at 0 d, less-one)
 
-  line-of-last : (left : ℕ) → left ≡ 0 → lineage c left at ≡ at ∷ []
+  lineage-of-last : (left : ℕ) → left ≡ 0 → lineage c left at ≡ at ∷ []
   unfolding lineage
-  line-of-last left q = rw q
+  lineage-of-last left q = rw q
 
 -- the first n places are written, and at is to be written next
 module _ (c : Chart) (at : State) (top n : ℕ) (places : List ℕ) {whole : List State} (space : n < length places)
@@ -41,16 +41,16 @@ module _ (c : Chart) (at : State) (top n : ℕ) (places : List ℕ) {whole : Lis
   all-written e = written ∙ ap (λ l. take n places ++ l) (sym e) ∙ still
 
   pub root-written : at ≡ 0 → take (n + 1) (set places n at) ≡ whole
-  root-written q = all-written (line-of-root c at (top - n) q)
+  root-written q = all-written (lineage-of-root c at (top - n) q)
 
   pub last-written : top ≤ n → take (n + 1) (set places n at) ≡ whole
-  last-written h = all-written (line-of-last c at (top - n) (omega arith))
+  last-written h = all-written (lineage-of-last c at (top - n) (omega arith))
 
   pub one-written : {next : State} → n < top → (at ≡ 0 → ⊥) → next ≡ parent c at
       → take (n + 1) (set places n at) ++ lineage c (top - (n + 1)) next ≡ whole
   one-written h d q =
       let less : top - (n + 1) ≡ top - n - 1 = omega arith in
-      rw (written, less, q, append-snoc, ← line-of-child c at (top - n) (omega arith) d) still
+      rw (written, less, q, append-snoc, ← lineage-of-child c at (top - n) (omega arith) d) still
 
 -- whether a is over each junction of a path: end by end
 module _ (c : Chart) (a : State) where
@@ -66,7 +66,7 @@ module _ (c : Chart) (a : State) where
   end-by-end [] = refl
   end-by-end (t ∷ ts) = one-end t ts (endsOnState c t) refl (end-by-end ts)
 
--- looking for the lowest up the source's line, which stands in the first n of the places above
+-- looking for the lowest up the source's lineage, which stands in the first n of the places above
 abbrev pub overAll : Chart → State → List Segment → State → Bool
 overAll c target path s = over c s target && every (over c s) (junctionParents c path)
 

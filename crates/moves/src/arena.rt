@@ -15,7 +15,7 @@ ghost use Rattle.rules.specs.Fire as rules;
 ghost use Rattle.chart.specs.Places.{headerOf};
 ghost use Rattle.moves.specs.Steps.{overEnd};
 
-// The line's places: no more states than there are can be on it, and at most 9 are used.
+// The lineage's places: no more states than there are can be in it, and at most 9 are used.
 const PLACES: usize = Header::MOST_STATES as usize;
 
 // A state, its parent and so on, the root last; how many they are.

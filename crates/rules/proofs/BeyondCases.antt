@@ -1,7 +1,7 @@
--- Two rules that no computed case reaches. Where 23 begins: at one over 1,000,000, whatever the chart. That an accepted image
--- has 202 bytes: a call never meets another, since 12 comes first. Assumes nothing.
+-- Rules that no computed case reaches. Where 23 begins: at one over 1,000,000, whatever the chart; and that 22 comes before it, whatever
+-- the bound. That an accepted image has 202 bytes: a call never meets another, since 12 comes first. Assumes nothing.
 use mathlib.Core.Path.{_≡_}
-use mathlib.Core.Bool.{true, not}
+use mathlib.Core.Bool.{true, false, not}
 use lib.Dec.{eqb}
 use lib.ListN.{length}
 use borrow.Author.Tests.{eqb-true}
@@ -22,6 +22,11 @@ module _ (c : Chart)
   pub over-the-limit : bound c ≡ 1000001 → boundRefusal c ≡ 23
   unfolding boundRefusal _unless_next_
   over-the-limit e = rw (sendless, loopless, e)
+
+pub loops-first : (c : Chart) → every (λ i. not (isSend (instruction c i .op))) (below (instructions c)) ≡ true
+    → every (λ j. not (loops c j)) (below (junctions c)) ≡ false → boundRefusal c ≡ 22
+unfolding boundRefusal _unless_next_
+loops-first c sendless looping = rw (sendless, looping)
 
 pub accepted-length : (im : Image) (c : Chart) → accepted im c ≡ true → length im ≡ 202
 unfolding accepted all every

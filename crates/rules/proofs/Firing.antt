@@ -64,18 +64,18 @@ module _ (c : Chart) (rt : Right c) where
           ];
         }
 
-    up-line : (n : ℕ) (s : State) → Up c im s → (x : State) → Mem x (lineage c n s) → Up c im x
+    up-lineage : (n : ℕ) (s : State) → Up c im s → (x : State) → Mem x (lineage c n s) → Up c im x
     unfolding lineage
-    up-line zero s u x m = rw (List·Memᴰ·eq-of-singleton m) u
-    up-line (suc n) s u x m =
+    up-lineage zero s u x m = rw (List·Memᴰ·eq-of-singleton m) u
+    up-lineage (suc n) s u x m =
         elim (List·Memᴰ·cases-cons m) [
           | inl e ↦ rw e u
-          | inr m ↦ up-line n (parent c s) (up-parent s u) x (else-mem (eqb s 0) m .1)
+          | inr m ↦ up-lineage n (parent c s) (up-parent s u) x (else-mem (eqb s 0) m .1)
         ]
 
     up-first : (s : State) → Up c im s → (f : State → Bool) → Up c im (first f (lineage c deepest s))
     up-first s u f =
-        elim (first-mem f (lineage c deepest s)) [ inl e ↦ rw e up-root | inr m ↦ up-line deepest s u _ (m .0) ]
+        elim (first-mem f (lineage c deepest s)) [ inl e ↦ rw e up-root | inr m ↦ up-lineage deepest s u _ (m .0) ]
 
     pub up-arena : (source target : State) (path : List Segment) → Up c im source → Up c im (arena c source target path)
     unfolding arena common if_then_else_

@@ -1,7 +1,7 @@
 pub mod Laws
 pub mod Opened
-pub mod EveryCase
 pub mod Apart
+pub mod EveryCase
 pub mod BeyondCases
 pub mod OneOutcome
 pub mod WrongEngines

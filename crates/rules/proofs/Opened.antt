@@ -15,6 +15,7 @@ use Rattle.rules.specs.Calls as Calls
 use Rattle.rules.specs.Session as Session
 use Rattle.rules.specs.Charts as Charts
 use Rattle.rules.specs.Cases as Cases
+use Rattle.rules.specs.ApartCases as ApartCases
 use Rattle.rules.specs.MoreCases as MoreCases
 
 unfoldable pub bytes : Unit {0}
@@ -70,17 +71,21 @@ unfolding Session.decimal Session.line Session.badSession Session.itemsIn Sessio
 session = tt
 
 unfoldable pub charts : Unit {0}
-unfolding Charts.blockBytes Charts.CH Charts.ST Charts.plain Charts.leaf Charts.JN Charts.TR Charts.bare Charts.VA Charts.IN Charts.chartA Charts.backtrack Charts.deadEnd Charts.toItself Charts.shared Charts.sendsFirst Charts.beside Charts.reckons Charts.loop Charts.orders Charts.inside Charts.nested Charts.hangsUp Charts.sendsLater Charts.sendsBoth Charts.besideItself Charts.roundItself Charts.nestedBeside Charts.otherChild Charts.otherEvent Charts.deadBehind Charts.overBoth Charts.remembers Charts.countsRound Charts.twoRound Charts.aloneRound Charts.chain Charts.deep Charts.alone Charts.pair Charts.upwards Charts.thrice Charts.manyWays Charts.blocks Charts.withEntry Charts.withDuring Charts.withExit Charts.withCondition Charts.withConditionAction Charts.withTransitionAction Charts.unused Charts.times Charts.piles
+unfolding Charts.blockBytes Charts.CH Charts.ST Charts.plain Charts.leaf Charts.JN Charts.TR Charts.bare Charts.VA Charts.IN Charts.chartA Charts.backtrack Charts.deadEnd Charts.toItself Charts.shared Charts.sendsFirst Charts.beside Charts.reckons Charts.loop Charts.orders Charts.inside Charts.nested Charts.hangsUp Charts.sendsLater Charts.sendsBoth Charts.besideItself Charts.roundItself Charts.nestedBeside Charts.otherChild Charts.otherEvent Charts.deadBehind Charts.overBoth Charts.remembers Charts.countsRound Charts.twoRound Charts.aloneRound Charts.deadThenInner Charts.backBefore Charts.besideTheWay Charts.toItsChild Charts.itselfOverRoot Charts.rootsFirst Charts.givenUpOverRoot Charts.actsOnTheWay Charts.sendsRound Charts.sendsNine Charts.sendsOnTheWay Charts.waitsAcross Charts.secondFirst Charts.twoBranches Charts.anyEventFirst Charts.overAnother Charts.innerBeside Charts.innerUpwards Charts.threeLevels Charts.leftInItsSweep Charts.rootRemembers Charts.byTheTree Charts.faultless Charts.faultsFrom Charts.chain Charts.deep Charts.alone Charts.pair Charts.upwards Charts.thrice Charts.manyWays Charts.blocks Charts.withEntry Charts.withDuring Charts.withExit Charts.withCondition Charts.withConditionAction Charts.withTransitionAction Charts.unused Charts.times Charts.piles
 charts = tt
 
 unfoldable pub cases : Unit {0}
 unfolding Cases.sameBy Cases.lent Cases.boardFrom Cases.boardAfter Cases.isAnswer Cases.holds Cases.eventBytes Cases.sessionOf Cases.sessionsToCheck
 cases = tt
 
+unfoldable pub apartCases : Unit {0}
+unfolding ApartCases.deadEndBehind ApartCases.segmentsOfAnotherEvent ApartCases.everyJunctionCounts ApartCases.roundToItself ApartCases.everyChildMoves ApartCases.targetsRecord ApartCases.arenasRecord ApartCases.childAfterInner ApartCases.ninthToNobody ApartCases.lastDoesNotPass ApartCases.behind ApartCases.manyWaysPass ApartCases.innerAfterDeadEnd ApartCases.backToTheListBefore ApartCases.siblingsRecord ApartCases.recordStays ApartCases.outerToItsChild ApartCases.itselfOverTheRoot ApartCases.higherJunctionFirst ApartCases.wayGivenUpOverTheRoot ApartCases.eachTransitionByItself ApartCases.nineInARow ApartCases.eventAfterSend ApartCases.stackAcrossSend ApartCases.initialIsNamed ApartCases.branchByBranch ApartCases.anyEventInOrder ApartCases.junctionOfAnother ApartCases.innerToOneBeside ApartCases.innerToOneAbove ApartCases.initialBelowAChild ApartCases.recordBelowAChild ApartCases.sweepGoesOn ApartCases.rootsRecord ApartCases.wayByParents ApartCases.boundOfAllTransitions ApartCases.sendInALoop ApartCases.faultsInOrder ApartCases.loopOfTwo ApartCases.loopApart ApartCases.apart
+apartCases = tt
+
 unfoldable pub moreCases : Unit {0}
-unfolding MoreCases.moves MoreCases.sends MoreCases.gives MoreCases.overflows MoreCases.enters MoreCases.values MoreCases.dividesByZero MoreCases.limits MoreCases.atState MoreCases.atSegment MoreCases.refusedCharts MoreCases.images MoreCases.between MoreCases.freshA MoreCases.startedA MoreCases.answers MoreCases.sessions MoreCases.deadEndBehind MoreCases.segmentsOfAnotherEvent MoreCases.everyJunctionCounts MoreCases.roundToItself MoreCases.everyChildMoves MoreCases.targetsRecord MoreCases.arenasRecord MoreCases.childAfterInner MoreCases.ninthToNobody MoreCases.lastDoesNotPass MoreCases.loopOfTwo MoreCases.loopApart MoreCases.apart MoreCases.cases
+unfolding MoreCases.moves MoreCases.sends MoreCases.gives MoreCases.overflows MoreCases.enters MoreCases.values MoreCases.dividesByZero MoreCases.limits MoreCases.atState MoreCases.atSegment MoreCases.refusedCharts MoreCases.images MoreCases.between MoreCases.freshA MoreCases.startedA MoreCases.answers MoreCases.sessions MoreCases.cases
 moreCases = tt
 
 unfoldable pub opened : Unit {0}
-unfolding bytes lists chart accept image doing block search fire run bound calls session charts cases moreCases
+unfolding bytes lists chart accept image doing block search fire run bound calls session charts cases apartCases moreCases
 opened = tt

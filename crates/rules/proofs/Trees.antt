@@ -64,38 +64,38 @@ module _ (c : Chart) (tr : Tree c) where
   deep-end n s e h d = clash (tr .depth s h) (rw e at d)
 
   -- to be over a state is to have it below, or to be it
-  line-below : (n : ℕ) (x : State) → x < states c → {k : State} → Mem k (lineage c n x) → Below c k x
+  lineage-below : (n : ℕ) (x : State) → x < states c → {k : State} → Mem k (lineage c n x) → Below c k x
   unfolding lineage
-  line-below zero x h m = rw (List·Memᴰ·eq-of-singleton m) here
-  line-below (suc n) x h {k} m =
+  lineage-below zero x h m = rw (List·Memᴰ·eq-of-singleton m) here
+  lineage-below (suc n) x h {k} m =
       elim (List·Memᴰ·cases-cons m) [
         | inl e ↦ rw e here
         | inr m ↦
             let (z, i) = else-mem (eqb x 0) m in
             let z′ : 0 < x = omega (arith, eqb-false x 0 z) in
             let up = tr .up x h z′ in
-            under z′ h (line-below n (parent c x) (omega arith) i)
+            under z′ h (lineage-below n (parent c x) (omega arith) i)
       ]
 
   pub over-below : {k x : State} → x < states c → over c k x ≡ true → Below c k x
   unfolding over
-  over-below {k} {x} h e = line-below deepest x h (isIn-mem k (lineage c deepest x) e)
+  over-below {k} {x} h e = lineage-below deepest x h (isIn-mem k (lineage c deepest x) e)
 
   -- a line that comes to the root passes whatever is above
-  below-line : (n : ℕ) {k x : State} → Below c k x → Mem 0 (lineage c n x) → Mem k (lineage c n x)
+  below-lineage : (n : ℕ) {k x : State} → Below c k x → Mem 0 (lineage c n x) → Mem k (lineage c n x)
   unfolding lineage
-  below-line zero here r = List·Memᴰ·head refl
-  below-line (suc n) here r = List·Memᴰ·head refl
-  below-line zero (under {x = x} z h b) r = let e = List·Memᴰ·eq-of-singleton r in absurd (omega arith)
-  below-line (suc n) (under {x = x} z h b) r =
+  below-lineage zero here r = List·Memᴰ·head refl
+  below-lineage (suc n) here r = List·Memᴰ·head refl
+  below-lineage zero (under {x = x} z h b) r = let e = List·Memᴰ·eq-of-singleton r in absurd (omega arith)
+  below-lineage (suc n) (under {x = x} z h b) r =
       elim (List·Memᴰ·cases-cons r) [
         | inl e ↦ absurd (omega arith)
-        | inr i ↦ let (q, j) = else-mem (eqb x 0) i in List·Memᴰ·tail (mem-else (eqb x 0) q (below-line n b j))
+        | inr i ↦ let (q, j) = else-mem (eqb x 0) i in List·Memᴰ·tail (mem-else (eqb x 0) q (below-lineage n b j))
       ]
 
   pub below-over : {k x : State} → x < states c → Below c k x → over c k x ≡ true
   unfolding over
-  below-over {k} {x} h b = mem-isIn k (lineage c deepest x) (below-line deepest b (isIn-mem 0 (lineage c deepest x) (tr .depth x h)))
+  below-over {k} {x} h b = mem-isIn k (lineage c deepest x) (below-lineage deepest b (isIn-mem 0 (lineage c deepest x) (tr .depth x h)))
 
   -- of two states above a third one is above the other
   pub comparable : {a b x : State} → Below c a x → Below c b x → Below c a b ⊎ Below c b a

@@ -49,7 +49,6 @@ checked f st = if fits (f (lower st) (top st)) then binary f st else refuse 17
 unfoldable pub divided : Stack → Doing Ran → Doing Ran
 divided st m = if isZero (top st) then refuse 17 else m
 
--- the owner is not there any more
 unfoldable pub gone : State → Image → Bool
 gone owner im = B.not (isActive im owner)
 

@@ -29,7 +29,7 @@ module _ (c : Chart) where
   bound =
       sumOver (λ s. 1 + during c s .count + sumOver W (outer c s) + sumOver W (inner c s) + G) (below (states c))
 
-  -- to junction j a segment of junction i leads
+  -- a segment of junction i leads to junction j: the end comes first
   unfoldable pub leadsTo : Junction → Junction → Bool
   leadsTo j i = any (λ t. not (endsOnState c t) && eqb (destination c t) j) (fromJunction c i)
 

@@ -31,7 +31,7 @@ mostStates = 64
 abbrev pub mostVariables : ℕ
 mostVariables = 32
 
--- the depth of a state, the root's being 0
+-- the largest depth of a state, the root's being 0
 abbrev pub deepest : ℕ
 deepest = 8
 

@@ -1,9 +1,11 @@
 -- Charts for the cases, written by their records. Assumes nothing.
 use mathlib.Core.List.{[], _∷_, _++_}
 use Prim.Native.Nat.{ℕ, zero, suc, _+_}
-use lib.ListN.{set}
+use lib.Dec.{leb}
+use lib.ListN.{take, set}
 use Rattle.rules.specs.Bytes.{Bytes, bytesOf, ascii}
-use Rattle.rules.specs.Chart.{Chart, Block, segmentAt}
+use Rattle.rules.specs.Lists.{if_then_else_}
+use Rattle.rules.specs.Chart.{Chart, Block, stateAt, junctionAt, segmentAt, instructionAt}
 
 -- ── records ──
 
@@ -206,6 +208,49 @@ twoRound =
 unfoldable pub aloneRound : Chart
 aloneRound = CH 2 1 1 0 1 0 0 ++ plain 0 1 1 0 ++ leaf 0 ++ JN 0 ++ bare 2 0 1 0 0
 
+-- on event 1 the outer edge of 1 comes to a dead end, and its inner edge leads to its child 3
+unfoldable pub deadThenInner : Chart
+deadThenInner =
+    CH 4 1 2 0 1 0 0 ++ plain 0 1 1 0 ++ plain 0 1 2 0 ++ leaf 1 ++ leaf 1 ++ JN 1 ++ bare 0 1 1 0 1 ++ bare 1 1 0 3 1
+
+-- on event 1 over a junction to another, whose way to 2 asks for event 2; the first has a way to 3, and 1 itself one to 2
+unfoldable pub backBefore : Chart
+backBefore =
+    CH 4 2 5 0 2 0 0 ++ plain 0 1 1 0 ++ leaf 0 ++ leaf 0 ++ leaf 0 ++ JN 0 ++ JN 0
+    ++ bare 0 1 1 0 1 ++ bare 2 0 1 1 0 ++ bare 2 1 0 2 2 ++ bare 2 0 0 3 0 ++ bare 0 1 0 2 1
+
+-- `orders`, where on event 4 state 6 leads to 2, beside which 3 keeps history
+unfoldable pub besideTheWay : Chart
+besideTheWay = set orders (segmentAt orders 3 + 5) 2
+
+-- `inside`, where on event 1 it is the outer edge of 1 that leads to its child 3
+unfoldable pub toItsChild : Chart
+toItsChild = set inside (segmentAt inside 0 + 2) 0
+
+-- 2, below 1, leads to itself over a junction of the root's
+unfoldable pub itselfOverRoot : Chart
+itselfOverRoot =
+    CH 3 1 2 0 1 0 0 ++ plain 0 1 1 0 ++ plain 0 1 2 0 ++ leaf 1 ++ JN 0 ++ bare 0 2 1 0 1 ++ bare 2 0 0 2 0
+
+-- `overBoth` with the root's junction first
+unfoldable pub rootsFirst : Chart
+rootsFirst = set (set overBoth (junctionAt overBoth 0 + 2) 0) (junctionAt overBoth 1 + 2) 1
+
+-- from 2 to 3, both below 1, after a way over a junction of the root's, which asks for event 2
+unfoldable pub givenUpOverRoot : Chart
+givenUpOverRoot =
+    CH 4 1 3 0 2 0 0 ++ plain 0 1 1 0 ++ plain 0 1 2 0 ++ leaf 1 ++ leaf 1 ++ JN 0
+    ++ bare 0 2 1 0 1 ++ bare 2 0 0 3 2 ++ bare 0 2 0 3 1
+
+-- from 1 over a junction to 2; the transition action of the first segment raises 1
+unfoldable pub actsOnTheWay : Chart
+actsOnTheWay =
+    CH 3 1 2 0 1 1 1 ++ plain 0 1 1 0 ++ leaf 0 ++ leaf 0 ++ JN 0 ++ TR 0 1 1 0 1 none none (at 0 1) ++ bare 2 0 0 2 0 ++ IN 11 1 0
+
+-- `loop` with a send in its condition action
+unfoldable pub sendsRound : Chart
+sendsRound = set (loop none) (instructionAt (loop none) 0 + 2) 12
+
 -- d + 1 states from s + 1 on, each the only child of the one before; the last is a leaf
 unfoldable pub chain : ℕ → ℕ → Bytes
 chain zero s = leaf s
@@ -269,6 +314,84 @@ unused op a b = withEntry none 1 (IN op a b)
 unfoldable pub times : ℕ → Bytes → Bytes
 times zero r = []
 times (suc n) r = r ++ times n r
+
+-- 1 and 2 beside each other; during of 1 sends nine times to 2
+unfoldable pub sendsNine : Chart
+sendsNine = CH 3 0 0 0 1 0 9 ++ plain 0 2 0 0 ++ ST 0 0 0 0 none (at 0 9) none ++ leaf 0 ++ times 9 (IN 12 1 2)
+
+-- 1, with 3 and 4, and 2 beside each other. On event 1 the way from 3 sends event 2 to 2, and goes over a junction to 4 on event 1
+unfoldable pub sendsOnTheWay : Chart
+sendsOnTheWay =
+    CH 5 1 2 0 2 0 1 ++ plain 0 2 0 0 ++ plain 0 1 3 0 ++ leaf 0 ++ leaf 1 ++ leaf 1 ++ JN 1
+    ++ TR 0 3 1 0 1 none (at 0 1) none ++ bare 2 0 0 4 1 ++ IN 12 2 2
+
+-- during of 1 has 5 on the stack while it sends to 2, beside it, and stores it then in x
+unfoldable pub waitsAcross : Chart
+waitsAcross =
+    CH 3 0 0 1 1 0 3 ++ plain 0 2 0 0 ++ ST 0 0 0 0 none (at 0 3) none ++ leaf 0 ++ VA 0
+    ++ IN 0 0 5 ++ IN 12 1 2 ++ IN 2 0 0
+
+-- the root's initial child is 2 of 1 and 2
+unfoldable pub secondFirst : Chart
+secondFirst = CH 3 0 0 0 1 0 0 ++ plain 0 1 2 0 ++ leaf 0 ++ leaf 0
+
+-- 1, with 3, and 2, with 4, beside each other; 1 leads to itself
+unfoldable pub twoBranches : Chart
+twoBranches =
+    CH 5 0 1 0 1 0 0 ++ plain 0 2 0 0 ++ plain 0 1 3 0 ++ plain 0 1 4 0 ++ leaf 1 ++ leaf 2 ++ bare 0 1 0 1 1
+
+-- 1 leads to 2 on any event, and behind that to 3 on event 1
+unfoldable pub anyEventFirst : Chart
+anyEventFirst =
+    CH 4 0 2 0 1 0 0 ++ plain 0 1 1 0 ++ leaf 0 ++ leaf 0 ++ leaf 0 ++ bare 0 1 0 2 0 ++ bare 0 1 0 3 1
+
+-- from 2 to 3, both below 1, over a junction of 4's, which is beside 1
+unfoldable pub overAnother : Chart
+overAnother =
+    CH 5 1 2 0 1 0 0 ++ plain 0 1 1 0 ++ plain 0 1 2 0 ++ leaf 1 ++ leaf 1 ++ leaf 0 ++ JN 4
+    ++ bare 0 2 1 0 1 ++ bare 2 0 0 3 0
+
+-- the inner edge of 1, a leaf, leads to 2; that of 2, a leaf below 1, to 1
+unfoldable pub innerBeside : Chart
+innerBeside = CH 3 0 1 0 1 0 0 ++ plain 0 1 1 0 ++ leaf 0 ++ leaf 0 ++ bare 1 1 0 2 1
+
+unfoldable pub innerUpwards : Chart
+innerUpwards = CH 3 0 1 0 1 0 0 ++ plain 0 1 1 0 ++ plain 0 1 2 0 ++ leaf 1 ++ bare 1 2 0 1 1
+
+-- the root over 1 over 2: with this initial child and history of the root
+unfoldable pub threeLevels : ℕ → ℕ → Chart
+threeLevels initial history = CH 3 0 0 0 1 0 0 ++ plain 0 1 initial history ++ plain 0 1 2 0 ++ leaf 1
+
+-- 1 is all-of, with 2 and 3; 2 leads over a junction of the root's to 1
+unfoldable pub leftInItsSweep : Chart
+leftInItsSweep =
+    CH 4 1 2 0 1 0 0 ++ plain 0 1 1 0 ++ plain 0 2 0 0 ++ leaf 1 ++ leaf 1 ++ JN 0 ++ bare 0 2 1 0 1 ++ bare 2 0 0 1 0
+
+-- the root keeps history of 1 and 2; 1 leads to 2
+unfoldable pub rootRemembers : Chart
+rootRemembers = CH 3 0 1 0 1 0 0 ++ plain 0 1 1 1 ++ leaf 0 ++ leaf 0 ++ bare 0 1 0 2 1
+
+-- 1 over 3, 2 over 4, and 5, which leads to 3: that is below 1, and its number is larger than 2
+unfoldable pub byTheTree : Chart
+byTheTree =
+    CH 6 0 1 0 1 0 0 ++ plain 0 1 5 0 ++ plain 0 1 3 0 ++ plain 0 1 4 0 ++ leaf 1 ++ leaf 2 ++ leaf 0 ++ bare 0 5 0 3 1
+
+-- entry, exit and a segment of 1, and an instruction in no block
+unfoldable pub faultless : Chart
+faultless =
+    blocks (at 0 1) none (at 1 2) none none none 4 (IN 11 1 0 ++ IN 1 0 0 ++ IN 2 0 0 ++ IN 11 1 0)
+
+-- that chart with every fault from number k on: entry of 1 sends (11), its exit leaves a value (10), an instruction has no op (9), its
+-- during action is empty with a start (8), the segment's event does not exist (7), a leaf keeps history (6), a zero byte is not zero
+-- (5), a byte is too many (4), there are 33 outputs (3), the mark is wrong (2), the chart is short (1)
+unfoldable pub faultsFrom : ℕ → Chart
+faultsFrom k =
+    let fault : ℕ → ℕ → ℕ → Chart → Chart = λ n i v c. if leb k n then set c i v else c in
+    let sound = fault 11 (instructionAt faultless 0 + 2) 12 (fault 10 (stateAt faultless 1 + 14) 1 faultless) in
+    let wrong = fault 9 (instructionAt faultless 3 + 2) 13 (fault 8 (stateAt faultless 1 + 9) 1 sound) in
+    let worse = fault 7 (segmentAt faultless 0 + 6) 2 (fault 6 (stateAt faultless 1 + 5) 1 (fault 5 (stateAt faultless 1 + 15) 1 wrong)) in
+    let worst = fault 3 8 33 (fault 2 0 0 (if leb k 4 then worse ++ (0 ∷ []) else worse)) in
+    (if leb k 1 then take 11 worst else worst)
 
 -- n pushes, then n stores, as an entry action
 unfoldable pub piles : ℕ → Chart

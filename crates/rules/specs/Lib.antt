@@ -14,4 +14,5 @@ pub mod Session
 pub mod Types
 pub mod Charts
 pub mod Cases
+pub mod ApartCases
 pub mod MoreCases

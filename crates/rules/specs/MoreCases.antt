@@ -1,5 +1,5 @@
--- More cases, for each rule of the paper that the sessions to check leave open: with another rule, one of them fails.
--- Expected numbers are derived from the paper. Assumes nothing.
+-- More cases, for rules of the paper that the sessions to check leave open; and the list of all cases. Expected numbers are derived
+-- from the paper. What was tried against the list: docs/DECISIONS.md, 43. Assumes nothing.
 use mathlib.Core.List.{List, [], _∷_, _++_, map}
 use Prim.Native.Nat.{ℕ, _+_}
 use lib.ListN.{take, replicate, set}
@@ -8,8 +8,9 @@ use Rattle.rules.specs.Bytes.{Bytes, ascii}
 use Rattle.rules.specs.Lists.{upFrom, downFrom}
 use Rattle.rules.specs.Chart.{Chart, stateAt, junctionAt, segmentAt, variableAt, instructionAt}
 use Rattle.rules.specs.Calls.{Board, stepCall, freshCall, boundCall}
-use Rattle.rules.specs.Charts.{none, at, IN, chartA, backtrack, sendsFirst, beside, reckons, loop, orders, inside, nested, hangsUp, deep, alone, pair, upwards, manyWays, withEntry, withDuring, withExit, withCondition, withConditionAction, withTransitionAction, unused, times, piles, sendsLater, sendsBoth, besideItself, roundItself, nestedBeside, otherChild, otherEvent, deadBehind, overBoth, remembers, countsRound, twoRound, aloneRound}
+use Rattle.rules.specs.Charts.{none, at, IN, chartA, backtrack, sendsFirst, beside, reckons, loop, orders, inside, nested, hangsUp, deep, alone, pair, upwards, withEntry, withDuring, withExit, withCondition, withConditionAction, withTransitionAction, unused, times, piles, sendsLater, sendsBoth}
 use Rattle.rules.specs.Cases.{Case, bounds, spoilt, steps, stands, imaged, boarded, leaves, says, lent, boardAfter, sessionOf, sessionsToCheck}
+use Rattle.rules.specs.ApartCases.{apart}
 
 -- ── run, search, fire, leave, enter ──
 
@@ -162,8 +163,6 @@ limits =
     ∷ steps (loop none) (1 ∷ []) 1 258 1023 20 0 []
     -- a 257th item has no room, however much is lent
     ∷ steps (loop (at 0 1)) (1 ∷ []) 1 1000000 1100 20 0 []
-    -- 160 segments pass, on paths of four
-    ∷ stands manyWays (1 ∷ 1 ∷ []) (0 ∷ 1 ∷ []) (0 ∷ 0 ∷ []) []
     ∷ []
 
 -- ── refusals of a chart ──
@@ -387,72 +386,6 @@ sessions =
     ∷ says (sessionOf chartA [] ++ replicate 16296 0) "0 25\nbad session\n"
     ∷ says (sessionOf chartA [] ++ replicate 16297 0) "bad session\n"
     ∷ []
-
--- ── rules that are easily taken for others, with the case that tells them apart ──
-
--- a dead end ends the whole search, not only the list of the junction before
-unfoldable pub deadEndBehind : Case
-deadEndBehind = steps deadBehind (1 ∷ []) 1 1000000 1024 0 4 (196608 ∷ 262144 ∷ 262145 ∷ 196609 ∷ [])
-
--- a junction whose segments all ask for another event is no dead end
-unfoldable pub segmentsOfAnotherEvent : Case
-segmentsOfAnotherEvent =
-    steps otherEvent (1 ∷ []) 1 1000000 1024 0 9 (196608 ∷ 262144 ∷ 262146 ∷ 131073 ∷ 327682 ∷ 65539 ∷ [])
-
--- each junction of the path counts for the arena
-unfoldable pub everyJunctionCounts : Case
-everyJunctionCounts =
-    steps overBoth (1 ∷ []) 1 1000000 1024 0 10
-    (196608 ∷ 196609 ∷ 262144 ∷ 262145 ∷ 262146 ∷ 131074 ∷ 131073 ∷ 327680 ∷ 327681 ∷ 327682 ∷ 65537 ∷ 65539 ∷ [])
-
--- source, target and arena are one state: its parent is the arena, whatever the path
-unfoldable pub roundToItself : Case
-roundToItself =
-    steps roundItself (1 ∷ []) 1 1000000 1024 0 6
-    (196608 ∷ 262144 ∷ 262145 ∷ 131073 ∷ 327680 ∷ 327681 ∷ 65537 ∷ [])
-
--- of an all-of arena every child is left and entered, and one whose turn comes then is run
-unfoldable pub everyChildMoves : Case
-everyChildMoves =
-    steps besideItself (1 ∷ []) 1 1000000 1024 0 8
-    (196608 ∷ 262144 ∷ 131074 ∷ 131073 ∷ 327680 ∷ 65537 ∷ 65538 ∷ 196610 ∷ [])
-
--- of a target that keeps history the recorded child is entered: also where the target is the arena, which has just recorded it
-unfoldable pub targetsRecord : Case
-targetsRecord =
-    steps remembers (1 ∷ 1 ∷ 2 ∷ []) 3 1000000 1024 0 6 (196608 ∷ 262146 ∷ 131076 ∷ 327682 ∷ 65537 ∷ 65539 ∷ [])
-
-unfoldable pub arenasRecord : Case
-arenasRecord =
-    steps remembers (1 ∷ 1 ∷ []) 4 1000000 1024 0 7 (196608 ∷ 196609 ∷ 262147 ∷ 131075 ∷ 327683 ∷ 65539 ∷ [])
-
--- the child is run that is active after the inner segments
-unfoldable pub childAfterInner : Case
-childAfterInner =
-    steps otherChild (1 ∷ []) 1 1000000 1024 0 9
-    (196608 ∷ 196609 ∷ 262144 ∷ 262145 ∷ 131074 ∷ 327681 ∷ 65539 ∷ 196611 ∷ [])
-
--- with eight sends open, one to an inactive state is nothing
-unfoldable pub ninthToNobody : Case
-ninthToNobody =
-    steps nestedBeside (1 ∷ []) 1 1000000 1024 0 95 (196608 ∷ times 8 (196609 ∷ 262144 ∷ []) ++ (196609 ∷ []))
-
--- a 129th segment that does not pass is no 19
-unfoldable pub lastDoesNotPass : Case
-lastDoesNotPass =
-    steps countsRound (1 ∷ []) 1 1000000 1024 0 1023 (196608 ∷ 262144 ∷ replicate 127 262145 ++ (196609 ∷ []))
-
--- 22: over more segments than one, and where no state leads
-unfoldable pub loopOfTwo : Case
-loopOfTwo = bounds twoRound 22 0
-
-unfoldable pub loopApart : Case
-loopApart = bounds aloneRound 22 0
-
-unfoldable pub apart : List Case
-apart =
-    deadEndBehind ∷ segmentsOfAnotherEvent ∷ everyJunctionCounts ∷ roundToItself ∷ everyChildMoves ∷ targetsRecord ∷ arenasRecord
-    ∷ childAfterInner ∷ ninthToNobody ∷ lastDoesNotPass ∷ loopOfTwo ∷ loopApart ∷ []
 
 -- ── all cases ──
 

@@ -18,13 +18,14 @@ module _ (c : Chart) where
   follow p ended rest = rest
   follow p runAbandoned rest = done
 
-  -- the active child of p, which an accepted image has (0, the root, is nobody's), or each that is active at its turn
+  -- the active child of p; without one, as in no accepted image, nothing (0 is the root, and nobody's child)
   unfoldable pub runActive : (State → Done) → State → Done
   runActive f p = do
     im ← look
     let s = first (isActive im) (children c p)
     (if eqb s 0 then done else f s)
 
+  -- of an all-of state each child that is active at its turn
   unfoldable pub runChildren : (State → Done) → State → Done
   runChildren f p = if isOneOf c p then runActive f p else each (λ s. whenActive s (f s)) (children c p)
 

@@ -31,8 +31,7 @@ orNext runAbandoned m = give runAbandoned
 module _ (c : Chart) where
   -- an empty condition holds
   unfoldable pub holds : Segment → Doing Bool
-  holds t =
-      if isNone (condition c t) then give true else (value c (condition c t) >>= (λ z. give (not (isZero z))))
+  holds t = if isNone (condition c t) then give true else (value c (condition c t) >>= (λ z. give (not (isZero z))))
 
   -- the event is 0 or the current event, and the condition, performed only then, is non-zero
   unfoldable pub passes : ℕ → Segment → Doing Bool
@@ -48,7 +47,7 @@ module _ (c : Chart) where
       o ← (if b then f t else give nowhere)
       orNext o (tries f ts)
 
-    -- segment t passes, after path, with n segments more on it at most
+    -- segment t passes, after path, with n segments more on it at most, t among them
     unfoldable pub passed : ℕ → List Segment → Segment → Doing Found
     passed zero path t = refuse 19
     passed (suc n) path t = do

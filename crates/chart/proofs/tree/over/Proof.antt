@@ -1,11 +1,11 @@
--- `tree::over` meets its contract. The loop's invariant: whether a is on the line of s is whether a is on what is left of it
+-- `tree::over` meets its contract. The loop's invariant: whether a is in the lineage of s is whether a is on what is left of it
 -- from here. The measure is how far up it may still go. Assumes nothing.
 use mathlib.Core.Path.{_≡_, refl}
 use borrow.Author.Needs.{needs}
 use native.Mathlib.Omega.{arith}
 use Rattle.rules.specs.Lists.{isIn}
 use Rattle.rules.specs.Chart.{lineage, over}
-use Rattle.chart.proofs.Lines.{line-here, line-root, line-up, line-end}
+use Rattle.chart.proofs.Lineages.{lineage-here, lineage-root, lineage-up, lineage-end}
 use Rattle.chart.proofs.tree.over.Statement.{statement}
 use Rattle.chart.proofs.tree.over.Tie as tie
 
@@ -23,14 +23,14 @@ unfolding over
 returns c =
     let a = c .before .before .before .before .before .before .args in
     let l = c .before .before .before .before .loop in
-    line-here (a .chart .now) (a .a .0) (l .at .0) (l .left) (l .inv) (c .if1 .taken)
+    lineage-here (a .chart .now) (a .a .0) (l .at .0) (l .left) (l .inv) (c .if1 .taken)
 
 returns-2 : tie.Need-returns-2 Inv-loop μ-loop
 unfolding over
 returns-2 c =
     let a = c .before .before .before .before .before .before .before .before .args in
     let l = c .before .before .before .before .before .before .loop in
-    line-root (a .chart .now) (a .a .0) (l .at .0) (l .left) (l .inv)
+    lineage-root (a .chart .now) (a .a .0) (l .at .0) (l .left) (l .inv)
     (c .before .before .before .before .before .loop-test .taken) (c .before .before .if1 .left) (c .if2 .taken)
 
 parent-requires : tie.Need-parent-requires Inv-loop μ-loop
@@ -46,7 +46,7 @@ loop-again : tie.Need-loop-again Inv-loop μ-loop
 loop-again c =
     let a = c .before .before .before .before .before .before .before .before .before .args in
     let l = c .before .before .before .before .before .before .before .loop in
-    line-up (a .chart .now) (a .a .0) (l .at .0) (l .left) (l .inv)
+    lineage-up (a .chart .now) (a .a .0) (l .at .0) (l .left) (l .inv)
     (c .before .before .before .before .before .before .loop-test .taken) (c .before .before .before .if1 .left)
     (c .before .if2 .left) (c .parent .result .0) (c .parent .ensures)
 
@@ -55,7 +55,7 @@ unfolding over
 returns-3 c =
     let a = c .before .before .before .before .before .args in
     let l = c .before .before .before .loop in
-    line-end (a .chart .now) (a .a .0) (l .at .0) (l .left) (l .inv) (omega arith)
+    lineage-end (a .chart .now) (a .a .0) (l .at .0) (l .left) (l .inv) (omega arith)
 
 pub over-spec : {M : Type 1} → statement M
 over-spec =

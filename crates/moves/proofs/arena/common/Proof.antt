@@ -1,4 +1,4 @@
--- The loop's invariant: the first that passes of all the line is the first of what is left of it. Assumes nothing.
+-- The loop's invariant: the first that passes of all the lineage is the first of what is left of it. Assumes nothing.
 use mathlib.Core.Path.{_≡_, refl, sym, _∙_}
 use mathlib.Core.Logic.{⊎-elim}
 use Prim.Native.Nat.{_-_}

@@ -1,4 +1,4 @@
--- The loop's invariant: the places written, and the line from here, are the line from the start. Assumes nothing.
+-- The loop's invariant: the places written, and the lineage from here, are the lineage from the start. Assumes nothing.
 use mathlib.Core.Path.{_≡_}
 use mathlib.Core.List.{_++_}
 use Prim.Native.Nat.{_-_, _≤_}

@@ -1,4 +1,4 @@
--- The walk from a state up its line, looking for a: what each way out shows of `was`, whether a is on the line at the start,
+-- The walk from a state up its lineage, looking for a: what each way out shows of `was`, whether a is in the lineage at the start,
 -- where that is whether a is on what is left; and what a turn leaves. Assumes nothing.
 use mathlib.Core.Path.{_≡_, refl, sym, _∙_}
 use mathlib.Core.Bool.{Bool, true, false, or-false}
@@ -36,17 +36,17 @@ module _ (c : Chart) (a at : State) where
 
 module _ (c : Chart) (a at : State) (left : ℕ) {was : Bool} (still : was ≡ isIn a (lineage c left at)) where
   -- a itself
-  pub line-here : at ≡ a → true ≡ was
-  line-here q = here c a at left q ∙ sym still
+  pub lineage-here : at ≡ a → true ≡ was
+  lineage-here q = here c a at left q ∙ sym still
 
   -- the root, and not a
-  pub line-root : 0 < left → (at ≡ a → ⊥) → at ≡ 0 → false ≡ was
-  line-root h d q = root c a at left h d q ∙ sym still
+  pub lineage-root : 0 < left → (at ≡ a → ⊥) → at ≡ 0 → false ≡ was
+  lineage-root h d q = root c a at left h d q ∙ sym still
 
   -- neither: on to what the code reads as the parent
-  pub line-up : 0 < left → (at ≡ a → ⊥) → (at ≡ 0 → ⊥) → (next : State) → next ≡ parent c at → was ≡ isIn a (lineage c (left - 1) next)
-  line-up h d r next q = rw q (still ∙ up c a at left h d r)
+  pub lineage-up : 0 < left → (at ≡ a → ⊥) → (at ≡ 0 → ⊥) → (next : State) → next ≡ parent c at → was ≡ isIn a (lineage c (left - 1) next)
+  lineage-up h d r next q = rw q (still ∙ up c a at left h d r)
 
   -- no further
-  pub line-end : left ≡ 0 → eqb at a ≡ was
-  line-end q = end c a at left q ∙ sym still
+  pub lineage-end : left ≡ 0 → eqb at a ≡ was
+  lineage-end q = end c a at left q ∙ sym still
