@@ -1,11 +1,31 @@
--- The cases that tell a rule from one that it is easily taken for, each by itself: a wrong rule is refused here at its own law.
--- Assumes nothing.
+-- The cases that tell a rule from one that it is easily taken for, each by itself, and five of the paper's own: a wrong rule is refused
+-- here at its own law. Assumes nothing.
 use mathlib.Core.Path.{_≡_, refl}
 use mathlib.Core.Bool.{true}
 use Rattle.rules.specs.Lists.{every}
-use Rattle.rules.specs.Cases.{holds}
+use Rattle.rules.specs.Cases.{holds, secondStep, keepsX, secondNotTried, weighsFive, twoStays}
 use Rattle.rules.specs.ApartCases.{apart, deadEndBehind, segmentsOfAnotherEvent, everyJunctionCounts, roundToItself, everyChildMoves, targetsRecord, arenasRecord, childAfterInner, ninthToNobody, lastDoesNotPass, manyWaysPass, innerAfterDeadEnd, backToTheListBefore, siblingsRecord, recordStays, outerToItsChild, itselfOverTheRoot, higherJunctionFirst, wayGivenUpOverTheRoot, eachTransitionByItself, nineInARow, eventAfterSend, stackAcrossSend, initialIsNamed, branchByBranch, anyEventInOrder, junctionOfAnother, innerToOneBeside, innerToOneAbove, initialBelowAChild, recordBelowAChild, sweepGoesOn, rootsRecord, wayByParents, boundOfAllTransitions, sendInALoop, loopOfTwo, loopApart, faultsInOrder}
 use Rattle.rules.proofs.Opened.{opened}
+
+pub second-step : holds secondStep ≡ true
+unfolding opened
+second-step = refl
+
+pub keeps-x : holds keepsX ≡ true
+unfolding opened
+keeps-x = refl
+
+pub second-not-tried : holds secondNotTried ≡ true
+unfolding opened
+second-not-tried = refl
+
+pub weighs-five : holds weighsFive ≡ true
+unfolding opened
+weighs-five = refl
+
+pub two-stays : holds twoStays ≡ true
+unfolding opened
+two-stays = refl
 
 pub dead-end-behind : holds deadEndBehind ≡ true
 unfolding opened

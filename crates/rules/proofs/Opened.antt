@@ -75,7 +75,7 @@ unfolding Charts.blockBytes Charts.CH Charts.ST Charts.plain Charts.leaf Charts.
 charts = tt
 
 unfoldable pub cases : Unit {0}
-unfolding Cases.sameBy Cases.lent Cases.boardFrom Cases.boardAfter Cases.isAnswer Cases.holds Cases.eventBytes Cases.sessionOf Cases.sessionsToCheck
+unfolding Cases.sameBy Cases.lent Cases.boardFrom Cases.boardAfter Cases.isAnswer Cases.holds Cases.eventBytes Cases.sessionOf Cases.secondStep Cases.keepsX Cases.secondNotTried Cases.weighsFive Cases.twoStays Cases.sessionsToCheck
 cases = tt
 
 unfoldable pub apartCases : Unit {0}

@@ -96,12 +96,32 @@ eventBytes (e ∷ es) = ascii "EV" ++ (e ∷ eventBytes es)
 unfoldable pub sessionOf : Chart → List ℕ → Bytes
 sessionOf c es = ascii "SE" ++ bytesOf 2 (length c) ++ c ++ eventBytes es
 
+-- P: A's second step with 6 units succeeds
+unfoldable pub secondStep : Case
+secondStep = steps chartA (1 ∷ []) 1 6 1024 0 6 (196608 ∷ 262144 ∷ 131073 ∷ 327680 ∷ 65538 ∷ 393217 ∷ [])
+
+-- P: the way given up keeps x at 1
+unfoldable pub keepsX : Case
+keepsX = stands backtrack (1 ∷ 1 ∷ []) (0 ∷ 3 ∷ []) (0 ∷ 0 ∷ 0 ∷ 0 ∷ []) (pos 1 ∷ [])
+
+-- P: a dead end: the second is not tried, the during point is reached
+unfoldable pub secondNotTried : Case
+secondNotTried = steps deadEnd (1 ∷ []) 1 1000000 1024 0 5 (196608 ∷ 262144 ∷ 196609 ∷ [])
+
+-- P: W is 5
+unfoldable pub weighsFive : Case
+weighsFive = weighs shared 0 5
+
+-- P: its own path is abandoned, 2 stays
+unfoldable pub twoStays : Case
+twoStays = stands (sendsFirst 2) (1 ∷ 1 ∷ []) (0 ∷ 2 ∷ []) (0 ∷ 0 ∷ 0 ∷ 0 ∷ []) []
+
 unfoldable pub sessionsToCheck : List Case
 sessionsToCheck =
     says (sessionOf chartA (1 ∷ 1 ∷ 2 ∷ []))
     "0 25\n0 2 2 65536 65537\n0 6 6 196608 262144 131073 327680 65538 393217\n0 2 2 196608 196610\n"
-    -- P: A's second step with 6 units succeeds, with 5 gives 16; 0 units gives 16
-    ∷ steps chartA (1 ∷ []) 1 6 1024 0 6 (196608 ∷ 262144 ∷ 131073 ∷ 327680 ∷ 65538 ∷ 393217 ∷ [])
+    -- P: the second step with 5 units gives 16; 0 units gives 16
+    ∷ secondStep
     ∷ steps chartA (1 ∷ []) 1 5 1024 16 0 []
     ∷ steps chartA [] 1 0 1024 16 0 []
     ∷ steps chartA (1 ∷ []) 1 0 1024 16 0 []
@@ -114,18 +134,15 @@ sessionsToCheck =
     ∷ bounds (take 83 chartA) 4 0
     ∷ bounds (take 11 chartA) 1 0
     ∷ bounds [] 1 0
-    -- P: the way given up keeps x at 1, its transition actions are dropped
-    ∷ stands backtrack (1 ∷ 1 ∷ []) (0 ∷ 3 ∷ []) (0 ∷ 0 ∷ 0 ∷ 0 ∷ []) (pos 1 ∷ [])
+    -- and the transition actions of that way are dropped
+    ∷ keepsX
     ∷ steps backtrack (1 ∷ []) 1 1000000 1024 0 12 (196608 ∷ 262144 ∷ 262146 ∷ 131073 ∷ 327682 ∷ 65539 ∷ [])
-    -- P: a dead end: the second is not tried, the during point is reached
-    ∷ steps deadEnd (1 ∷ []) 1 1000000 1024 0 5 (196608 ∷ 262144 ∷ 196609 ∷ [])
+    ∷ secondNotTried
     ∷ stands deadEnd (1 ∷ 1 ∷ []) (0 ∷ 1 ∷ []) (0 ∷ 0 ∷ 0 ∷ 0 ∷ []) (pos 1 ∷ [])
     -- P: outer segment from 1 to 1: left, then entered
     ∷ steps toItself (1 ∷ []) 1 1000000 1024 0 5 (196608 ∷ 262144 ∷ 131073 ∷ 327680 ∷ 65537 ∷ [])
-    -- P: W is 5
-    ∷ weighs shared 0 5
-    -- P: its own path is abandoned, 2 stays
-    ∷ stands (sendsFirst 2) (1 ∷ 1 ∷ []) (0 ∷ 2 ∷ []) (0 ∷ 0 ∷ 0 ∷ 0 ∷ []) []
+    ∷ weighsFive
+    ∷ twoStays
     ∷ steps (sendsFirst 2) (1 ∷ []) 1 1000000 1024 0 10
     (196608 ∷ 262144 ∷ 196608 ∷ 262145 ∷ 131073 ∷ 327681 ∷ 65538 ∷ [])
     -- 2 is run by the send, then by its turn
