@@ -8,15 +8,11 @@ use Rattle.rules.specs.Chart.{Chart}
 use Rattle.rules.specs.Accept.{chartRefusal}
 use Rattle.rules.specs.Doing.{because}
 use Rattle.rules.specs.Bound.{bound, boundRefusal}
-use Rattle.rules.specs.Calls.{Answer, numberOnly, unlessRefused, boundCall, Observed, packed, observed}
+use Rattle.rules.specs.Calls.{numberOnly, unlessRefused, boundCall, Observed, packed, observed}
 use Rattle.doing.specs.declared.Refusal.{Refusal}
 use Rattle.bound.specs.Sums.{BoundAnswer, boundedOf, boundTold, boundAnswer}
 use Rattle.bound.specs.declared.Bounded.{Bounded}
 use Rattle.bound.specs.declared.Bounded.the-variants.{Refused, By}
-
--- the answer with a chart's bound
-abbrev boundGiven : Chart → Answer
-boundGiven c = record { refusal = because 0; units = 0; items = 0; bound = bound c; board = []; trace = [] }
 
 abbrev told : ℕ → Observed
 told n = record { answer = n; board = []; trace = [] }
@@ -28,7 +24,10 @@ numbered : (r : ℕ) → observed (numberOnly (because r) [] []) ≡ told r
 unfolding observed packed numberOnly because
 numbered r = let q : r + 256 * (0 + 0) + 131072 * 0 ≡ r = omega arith in rw q refl
 
-bounded : (c : Chart) (r : ℕ) → observed (unlessRefused r [] [] (boundGiven c)) ≡ told (packedBound (boundTold r (bound c)))
+-- the answer of a chart that has a bound, or the number alone
+bounded : (c : Chart) (r : ℕ)
+    → observed (unlessRefused r [] [] (record { refusal = because 0; units = 0; items = 0; bound = bound c; board = []; trace = [] }))
+    ≡ told (packedBound (boundTold r (bound c)))
 unfolding unlessRefused boundTold observed packed because
 bounded c zero = let q : 0 + 256 * (0 + bound c) + 131072 * 0 ≡ 0 + 256 * bound c = omega arith in rw q refl
 bounded c (suc r) = numbered (suc r) ∙ ap told (let q : suc r ≡ suc r + 256 * 0 = omega arith in q)

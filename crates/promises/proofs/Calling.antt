@@ -28,18 +28,21 @@ pub record Lift (c : Chart) (k : ℕ) (board : Board) : Type 0 where
   pub has : Has board k
   pub taken : accepted (part board k) c ≡ true
 
+-- what its tests gave decides: the answer of a call that passed them, or the number alone
+by-tests : (P : Answer → Type 0) (board : Board) (trace : Bytes) (a : Answer) (r : ℕ) → (r ≡ 0 → P a)
+    → ((k : ℕ) → r ≡ suc k → P (numberOnly (because (suc k)) board trace)) → P (unlessRefused r board trace a)
+unfolding unlessRefused
+by-tests P board trace a zero passing refusing = passing refl
+by-tests P board trace a (suc r) passing refusing = refusing r refl
+
 module _ (c : Chart) (board : Board) (k : ℕ) where
   module _ (P : Answer → Type 0) (refusing : (r : ℕ) → P (numberOnly (because (suc r)) board []))
       (making : chartRefusal c ≡ 0 → Has board k → P (numberOnly (because 0) (withPart board k (freshImage c)) [])) where
-    fresh-by : (r : ℕ) → (chartRefusal c else partRefusal board k) ≡ r
-        → P (unlessRefused r board [] (numberOnly (because 0) (withPart board k (freshImage c)) []))
-    unfolding unlessRefused
-    fresh-by zero q = let (a, b) = else-zero (chartRefusal c) (partRefusal board k) q in making a (part-has board k b)
-    fresh-by (suc r) q = refusing r
-
     pub fresh-ends : P (freshCall c board k)
     unfolding freshCall
-    fresh-ends = fresh-by (chartRefusal c else partRefusal board k) refl
+    fresh-ends =
+        by-tests P board [] _ (chartRefusal c else partRefusal board k)
+        (λ q. let (a, b) = else-zero (chartRefusal c) (partRefusal board k) q in making a (part-has board k b)) (λ r q. refusing r)
 
   module _ (e allowance : ℕ) where
     begun : stepRefusal c board k e allowance ≡ 0 → Lift c k board × (allowance ≤ mostUnits)
@@ -64,31 +67,21 @@ module _ (c : Chart) (board : Board) (k : ℕ) where
       step-goes b l (refused r) q = stopping b r q
       step-goes b l (went u n) q = going b l u n q
 
-      step-by : (r : ℕ) → stepRefusal c board k e allowance ≡ r
-          → P (unlessRefused r board trace (stepAnswer board trace k allowance (step c e (begin (part board k) trace allowance))))
-      unfolding unlessRefused
-      step-by zero q = let (b, l) = begun q in step-goes b l (step c e (begin (part board k) trace allowance)) refl
-      step-by (suc r) q = refusing r q
-
       pub step-ends : P (stepCall c board trace k e allowance)
       unfolding stepCall
-      step-ends = step-by (stepRefusal c board k e allowance) refl
-
--- the answer with a chart's bound
-abbrev pub boundGiven : Chart → Answer
-boundGiven c = record { refusal = because 0; units = 0; items = 0; bound = bound c; board = []; trace = [] }
+      step-ends =
+          by-tests P board trace _ (stepRefusal c board k e allowance)
+          (λ q. let (b, l) = begun q in step-goes b l (step c e (begin (part board k) trace allowance)) refl) refusing
 
 module _ (c : Chart) (P : Answer → Type 0)
     (refusing : (r : ℕ) → (chartRefusal c else boundRefusal c) ≡ suc r → P (numberOnly (because (suc r)) [] []))
-    (giving : chartRefusal c ≡ 0 → boundRefusal c ≡ 0 → P (boundGiven c)) where
-  bound-by : (r : ℕ) → (chartRefusal c else boundRefusal c) ≡ r → P (unlessRefused r [] [] (boundGiven c))
-  unfolding unlessRefused
-  bound-by zero q = let (a, b) = else-zero (chartRefusal c) (boundRefusal c) q in giving a b
-  bound-by (suc r) q = refusing r q
-
+    (giving : chartRefusal c ≡ 0 → boundRefusal c ≡ 0
+    → P (record { refusal = because 0; units = 0; items = 0; bound = bound c; board = []; trace = [] })) where
   pub bound-ends : P (boundCall c)
   unfolding boundCall
-  bound-ends = bound-by (chartRefusal c else boundRefusal c) refl
+  bound-ends =
+      by-tests P [] [] _ (chartRefusal c else boundRefusal c)
+      (λ q. let (a, b) = else-zero (chartRefusal c) (boundRefusal c) q in giving a b) refusing
 
 -- how a step ends that passed its tests: in demand 3's shape if it went, and within the bound where the chart has one
 pub ending : (c : Chart) (board : Board) (trace : Bytes) (k e allowance : ℕ) → Lift c k board → (o : Outcome (Unit {0}))

@@ -186,6 +186,44 @@ faults-in-order = refl
 pub apart-hold : every holds apart ≡ true
 unfolding every apart
 apart-hold =
-    rw
-    (dead-end-behind, segments-of-another-event, every-junction-counts, round-to-itself, every-child-moves, targets-record, arenas-record, child-after-inner, ninth-to-nobody, last-does-not-pass, many-ways-pass, inner-after-dead-end, back-to-the-list-before, siblings-record, record-stays, outer-to-its-child, itself-over-the-root, higher-junction-first, way-given-up-over-the-root, each-transition-by-itself, nine-in-a-row, event-after-send, stack-across-send, initial-is-named, branch-by-branch, any-event-in-order, junction-of-another, inner-to-one-beside, inner-to-one-above, initial-below-a-child, record-below-a-child, sweep-goes-on, roots-record, way-by-parents, bound-of-all-transitions, send-in-a-loop, loop-of-two, loop-apart)
+    rw (
+      dead-end-behind,
+      segments-of-another-event,
+      every-junction-counts,
+      round-to-itself,
+      every-child-moves,
+      targets-record,
+      arenas-record,
+      child-after-inner,
+      ninth-to-nobody,
+      last-does-not-pass,
+      many-ways-pass,
+      inner-after-dead-end,
+      back-to-the-list-before,
+      siblings-record,
+      record-stays,
+      outer-to-its-child,
+      itself-over-the-root,
+      higher-junction-first,
+      way-given-up-over-the-root,
+      each-transition-by-itself,
+      nine-in-a-row,
+      event-after-send,
+      stack-across-send,
+      initial-is-named,
+      branch-by-branch,
+      any-event-in-order,
+      junction-of-another,
+      inner-to-one-beside,
+      inner-to-one-above,
+      initial-below-a-child,
+      record-below-a-child,
+      sweep-goes-on,
+      roots-record,
+      way-by-parents,
+      bound-of-all-transitions,
+      send-in-a-loop,
+      loop-of-two,
+      loop-apart,
+    )
     faults-in-order
