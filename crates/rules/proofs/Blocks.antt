@@ -16,7 +16,7 @@ use Rattle.rules.specs.Chart as C
 use Rattle.rules.specs.Chart.{State, Chart, Block, Op, Instruction, states, variables, instruction, code}
 use Rattle.rules.specs.Accept.{op_rule, is_send, operands_right}
 use Rattle.rules.specs.Image.{Image, is_active, set_variable}
-use Rattle.rules.specs.Doing.{Doing}
+use Rattle.rules.specs.Doing.{Doing, give}
 use Rattle.rules.specs.Block.{Stack, Ran, ran, abandoned, unless_abandoned, top, binary, checked, divided, gone, Delivery, SendOp, no_send, send_from, sent_to, instruct, perform, action}
 use Rattle.rules.proofs.Laws.{two, both, and_left, clash}
 use Rattle.rules.proofs.Members.{Mem}
@@ -85,7 +85,7 @@ module _ (c : Chart) (tr : Tree c) (I F : Claim) {send_op : SendOp}
   t-instruct C.raise i st v q = t-then {b' = 0} (t-note _ i.a) (t_same _)
   t-instruct C.send i st v q =
       t-bind {b' = 0} (sends (λ x. clash refl (q x)) i.a (sent_to i) (sends-to-state c tr.most i v))
-      (λ g. elim g [ true ↦ t_same _ | false ↦ t_same _ ])
+      (λ g. elim g as (λ k. Triple {A = Ran} (Bounded c) 0 (After I F k) (give (if k then abandoned else ran st)) (How I F)) [ true ↦ t_same _ | false ↦ t_same _ ])
   t-instruct C.unknown i st v q = t_same _
 
   t-perform : (st : Stack) (xs : List ℕ) → every (has_operands c) (map (instruction c) xs) ≡ true

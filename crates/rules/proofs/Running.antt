@@ -7,13 +7,14 @@ use mathlib.Core.Bool.{true, false}
 use mathlib.Core.List.Memᴰ
 use mathlib.Core.List.{List, [], ◌∷◌, ◌++◌}
 use Prim.Native.Nat.{ℕ, zero, suc, ◌+◌, ◌≤◌, ◌<◌}
+use lib.IntN.{pos}
 use native.Mathlib.Omega.{arith}
 use borrow.Author.Tests.{eqb-false}
 use Rattle.rules.specs.Lists.{if◌then◌else◌, below, keep, sum_over}
 use Rattle.rules.specs.Chart.{State, Segment, Chart, Block, code, states, segments, during, destination, condition, condition_action, is_one_of, children, outer, inner, from_junction, starts_at, ends_on_state}
 use Rattle.rules.specs.Image.{Image, is_active}
-use Rattle.rules.specs.Doing.{Doing, Done, ◌>>=◌, segment_passed, during_point}
-use Rattle.rules.specs.Block.{ran, abandoned, unless_abandoned, Delivery, send_from, perform, value}
+use Rattle.rules.specs.Doing.{Doing, Done, give, ◌>>=◌, segment_passed, during_point}
+use Rattle.rules.specs.Block.{Ran, ran, abandoned, unless_abandoned, Delivery, send_from, perform, top, value}
 use Rattle.rules.specs.Search.{Found, reached, nowhere, ended, run_abandoned, or_next, holds, passes, tries, passed, search}
 use Rattle.rules.specs.Run.{follow, run_active, run_children, run_inside, run_during, run, send}
 use Rattle.rules.specs.Bound.{W, G}
@@ -125,13 +126,18 @@ module _ (c : Chart) (rt : Right c) where
     going-quiet im₀ im (g, u) q =
         (quiet-good c tr im₀ im q g, record { state = u.state; on = quiet_at c tr im₀ im q p u.state ∙ u.on })
 
+    t-top : (r : Ran) → Triple B 0 (Going c p) (unless_abandoned r (pos 0) (λ st. give (top st))) (λ _. Going c p)
+    unfolding unless_abandoned
+    t-top (ran st) = t_same _
+    t-top abandoned = t_same _
+
     t-holds : (t : Segment) → t < segments c → Triple B (condition c t).count (Going c p) (holds c t) (λ _. Going c p)
     unfolding holds value unless_abandoned
     t-holds t h =
         t-if _ (λ e. t_same _)
         (λ e. t-more (λ x. omega arith)
         (t-bind {b' = 0} (t-bind {b' = 0} (t-condition c tr (λ im g. g.0.sound) going-quiet (condition c t) (condition-valid c rt t h))
-        (λ r. elim r [ ran st ↦ t_same _ | abandoned ↦ t_same _ ])) (λ z. t_same _)))
+        (λ r. t-top r)) (λ z. t_same _)))
 
     pub t-passes : (e : ℕ) (t : Segment) → t < segments c
         → Triple B (condition c t).count (Going c p) (passes c e t) (λ _. Going c p)

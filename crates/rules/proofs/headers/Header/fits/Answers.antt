@@ -4,12 +4,8 @@ use mathlib.Core.Bool.{and-true}
 use lib.Dec.{leb-zero}
 use Rattle.rules.specs.Lists.{all, every}
 use Rattle.rules.specs.Accept.{counts_right}
-use Rattle.rules.proofs.headers.Header.fits.Statement.{statement}
-use Rattle.rules.proofs.headers.Header.fits.Tie as tie
+use Rattle.rules.proofs.headers.Header.fits.Goals as goal
 
-returns : tie.Need-returns
+pub returns : goal.returns
 unfolding counts_right all every
 returns c = simp (and-true, leb-zero)
-
-pub fits-spec : {M : Type 1} → statement M
-fits-spec = tie.close (tie.spec returns)
