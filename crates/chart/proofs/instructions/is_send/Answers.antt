@@ -1,0 +1,6 @@
+-- The op's number that was read is a send's. Assumes nothing.
+use Rattle.chart.proofs.Sends.{send-number}
+use Rattle.chart.proofs.instructions.is_send.Goals as goal
+
+pub returns : goal.returns
+returns c = rw c.u8_at.ensures (send-number _)
