@@ -14,7 +14,7 @@ import re
 import sys
 
 NAME = re.compile(r"(?<![\w'·⇝])[^\W\d_A-Z][\w']*")
-PUBLISHED = re.compile(r"^(en|ex|run)(S|C|SL|O|A)\d?0?$")
+PUBLISHED = re.compile(r"^(en|ex|run)(S|C|SL|O|A|E)\d?0?N?$")
 OTHER = {
     # two of these would fall together with a name that is there already
 }
