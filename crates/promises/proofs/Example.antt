@@ -35,8 +35,8 @@ pub board : Board
 board = after_calls before old
 
 numbers : List Call → Board → List ℕ
-numbers [] board = []
-numbers (x ∷ xs) board = (answer x board).refusal.number ∷ numbers xs (after_call x board)
+numbers [] b = []
+numbers (x ∷ xs) b = (answer x b).refusal.number ∷ numbers xs (after_call x b)
 
 refused-before : numbers before old ≡ 13 ∷ 12 ∷ []
 unfolding opened numbers before old lent

@@ -127,6 +127,8 @@ module _ (c : Chart) (rt : Right c) where
     unfolding follow
     follow-none nowhere m failed g w = w g
     follow-none ended m terminal g w = w g
+    follow-none (reached _ _) m none g w = elim none [ ]
+    follow-none run_abandoned m none g w = elim none [ ]
 
     follow-state : (h : State) (path : List Segment) (m : Done) {n n' : Now} → Goes (fire c p h path) n n'
         → Goes (follow c p (reached h path) m) n n'
@@ -379,16 +381,16 @@ module _ (c : Chart) (rt : Right c) where
       let v = goes x d m l deep gp in
       more-goes _ p ps (active-goes p _ a v)
       (goes y d m l (at_rest m p ps at) (kept (t-run c rt (send c k) (t-send c rt k) e d p h) v gp))
-  goes (R.run_sln {p = p} {ps = ps} a y) = λ d m l at g. more-goes _ p ps (idle-goes p _ a) (goes y d m l (at_rest m p ps at) g)
+  goes (R.runSLN {p = p} {ps = ps} a y) = λ d m l at g. more-goes _ p ps (idle-goes p _ a) (goes y d m l (at_rest m p ps at) g)
   goes (R.runA {k = k} {e = e} {p = p} o x) = λ d m l deep g.
       runA-goes k e p d o (goes x d m l (at-children m p deep) g.0)
-  goes (R.run_e1 {k = k} {e = e} {p = p} {n = n} {n₁ = n₁} {n₂ = n₂} pd x) = level k e p n n₂ (λ d m l deep g.
+  goes (R.runE1 {k = k} {e = e} {p = p} {n = n} {n₁ = n₁} {n₂ = n₂} pd x) = level k e p n n₂ (λ d m l deep g.
       run-goes k e p d run_abandoned pd (found k e p (outer c p) (outer-real c rt p) n₁ n₂ run_abandoned not-abandoned (goes x) (paid (Going c p) pd g))
       (follow-abandoned k e p _))
-  goes (R.run_e2 {k = k} {e = e} {p = p} {o = o} {n = n} {n₄ = n₄} pd x s i b) = level k e p n n₄ (λ d m l deep g.
+  goes (R.runE2 {k = k} {e = e} {p = p} {o = o} {n = n} {n₄ = n₄} pd x s i b) = level k e p n n₄ (λ d m l deep g.
       outer-none k e p d o pd g (goes x) s (λ g₂. during-goes k e p d abandoned i
       ((goes b).0 (during-valid c rt p g.1.state).operands (noted (Going c p) during_point p i g₂)) (abandoned-goes k e p d)))
-  goes (R.run_e3 {k = k} {e = e} {p = p} {o = o} {st = st} {n = n} {n₄ = n₄} {n₅ = n₅} pd x s i b y) =
+  goes (R.runE3 {k = k} {e = e} {p = p} {o = o} {st = st} {n = n} {n₄ = n₄} {n₅ = n₅} pd x s i b y) =
       level k e p n n₅ (λ d m l deep g. after-during k e p d o pd g (goes x) s i (goes b) (λ g₄.
       ran-goes k e p d st run_abandoned (found k e p (inner c p) (inner-real c rt p) n₄ n₅ run_abandoned not-abandoned (goes y) g₄) (follow-abandoned k e p _)))
   goes (R.Ch {e = e} {n = n} s x) = λ a.

@@ -22,7 +22,7 @@ use Rattle.rules.proofs.Shape.{Good}
 use Rattle.rules.proofs.Firing.{Going}
 use Rattle.rules.proofs.Running.{Way, further}
 use Rattle.semantics.specs.Relation.{Gives, Goes}
-use Rattle.semantics.proofs.Inverting.{paid, noted, then-goes, bind_goes, give-goes, yes-goes, no-goes}
+use Rattle.semantics.proofs.Inverting.{paid, then-goes, bind_goes, give-goes, yes-goes, no-goes}
 use Rattle.semantics.proofs.Searching.{along, along-longer, one-longer, Tried, Ways, tried-kept, noted-kept, acted-kept}
 
 abbrev finished : Ran → Bool

@@ -156,7 +156,7 @@ module _ (c : Chart) (rt : Right c) (k : ℕ) (sends : SendsSound c k) (e : ℕ)
               (each-runs xs rest (kept (t-run c rt (send c k) (t-send c rt k) e d x h) v gx) b.behind)
           | inr a ↦
               let same : m ≡ b.mid = idle-inv x (run c (send c k) e d x) a b.before in
-              R.run_sln a (each-runs xs rest g (rw (← same) at b.behind))
+              R.runSLN a (each-runs xs rest g (rw (← same) at b.behind))
         ]
 
     children-run : (p : State) → ((s : State) → Child c p s → Deep c n s) → {m m' : Now} → Going c p m.image
@@ -190,7 +190,7 @@ module _ (c : Chart) (rt : Right c) (k : ℕ) (sends : SendsSound c k) (e : ℕ)
           let f = fire-sound c rt p t path r g w in R.runS2 pd x none i a y f.exits f.acts f.down f.enters
       inside nowhere x none i a (o, y, none') g w = R.runS3 pd x none i a y none' (children-run p deep g w)
       inside ended x none i a (o, y, none') g w = R.runS3 pd x none i a y none' (children-run p deep g w)
-      inside run_abandoned x none i a y g w = rw (← done-inv w) (R.run_e3 pd x none i a y)
+      inside run_abandoned x none i a y g w = rw (← done-inv w) (R.runE3 pd x none i a y)
 
       acted : {m₂ m₃ m₄ m₅ : Now} {o : Found} (r : Ran) → c ⊢ ⇝tl k e p 0 (outer c p) m₁ m₂ o → NoState o
           → Goes (note during_point p) m₂ m₃ → c ⊢ ⇝a k p [] (code c (during c p)) m₃ m₄ r → How (Going c p) (Good c) r m₄.image
@@ -200,7 +200,7 @@ module _ (c : Chart) (rt : Right c) (k : ℕ) (sends : SendsSound c k) (e : ℕ)
           let b = bind_inv _ _ w in
           inside b.gave x none i a (searched p (inner c p) (inner-real c rt p) g b.before)
           (searched-kept c rt k e p (inner c p) (inner-real c rt p) b.before g) b.behind
-      acted abandoned x none i a g w = rw (← (give-inv w).1) (R.run_e2 pd x none i a)
+      acted abandoned x none i a g w = rw (← (give-inv w).1) (R.runE2 pd x none i a)
 
       -- no outer segment reached a state
       during-runs : {m₂ m₃ : Now} {o : Found} → c ⊢ ⇝tl k e p 0 (outer c p) m₁ m₂ o → NoState o → Going c p m₂.image
@@ -222,7 +222,7 @@ module _ (c : Chart) (rt : Right c) (k : ℕ) (sends : SendsSound c k) (e : ℕ)
           let f = fire-sound c rt p t path r g w in R.runS pd x f.exits f.acts f.down f.enters
       followed nowhere (o, x, none) g w = during-runs x none g w
       followed ended (o, x, none) g w = during-runs x none g w
-      followed run_abandoned x g w = rw (← done-inv w) (R.run_e1 pd x)
+      followed run_abandoned x g w = rw (← done-inv w) (R.runE1 pd x)
 
   pub run_sound : (d n : ℕ) → n + d ≡ 9 → (p : State) → Deep c n p → (m m' : Now) → Going c p m.image
       → Goes (run c (send c k) e d p) m m' → c ⊢ ⇝runS k e p m m'

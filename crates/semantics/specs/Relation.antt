@@ -232,17 +232,17 @@ pub data ◌⊢◌ (c : Chart) : Arrow → Type 0 where
   -- action or the inner list, which ends the run
   runSL0 : {k e : ℕ} {n : Now}
       → c ⊢ ⇝runSL k e [] n n
-  run_sln : {k e : ℕ} {p : State} {ps : List State} {n n' : Now}
+  runSLN : {k e : ℕ} {p : State} {ps : List State} {n n' : Now}
       → ⟦ is_active n.image p ≡ false ⟧ → c ⊢ ⇝runSL k e ps n n'
       → c ⊢ ⇝runSL k e (p ∷ ps) n n'
-  run_e1 : {k e : ℕ} {p : State} {n n₁ n₂ : Now}
+  runE1 : {k e : ℕ} {p : State} {n n₁ n₂ : Now}
       → ⟦ Goes pay n n₁ ⟧ → c ⊢ ⇝tl k e p 0 (outer c p) n₁ n₂ run_abandoned
       → c ⊢ ⇝runS k e p n n₂
-  run_e2 : {k e : ℕ} {p : State} {o : Found} {n n₁ n₂ n₃ n₄ : Now}
+  runE2 : {k e : ℕ} {p : State} {o : Found} {n n₁ n₂ n₃ n₄ : Now}
       → ⟦ Goes pay n n₁ ⟧ → c ⊢ ⇝tl k e p 0 (outer c p) n₁ n₂ o → NoState o
       → ⟦ Goes (note during_point p) n₂ n₃ ⟧ → c ⊢ ⇝a k p [] (code c (during c p)) n₃ n₄ abandoned
       → c ⊢ ⇝runS k e p n n₄
-  run_e3 : {k e : ℕ} {p : State} {o : Found} {st : Stack} {n n₁ n₂ n₃ n₄ n₅ : Now}
+  runE3 : {k e : ℕ} {p : State} {o : Found} {st : Stack} {n n₁ n₂ n₃ n₄ n₅ : Now}
       → ⟦ Goes pay n n₁ ⟧ → c ⊢ ⇝tl k e p 0 (outer c p) n₁ n₂ o → NoState o
       → ⟦ Goes (note during_point p) n₂ n₃ ⟧ → c ⊢ ⇝a k p [] (code c (during c p)) n₃ n₄ (ran st)
       → c ⊢ ⇝tl k e p 0 (inner c p) n₄ n₅ run_abandoned
