@@ -38,9 +38,9 @@ module _ (i : Instruction) (st : Stack) (n : Now) where
   unfolding paid_for
   unpaid e = then-refused pay (instructed i st) n e
 
-  pub paid_for : {later : Now} → pay n ≡ went tt later → instructed i st later ≡ paid_for i st n
+  pub paid-for : {later : Now} → pay n ≡ went tt later → instructed i st later ≡ paid_for i st n
   unfolding paid_for
-  paid_for e = then-goes pay (instructed i st) n e
+  paid-for e = then-goes pay (instructed i st) n e
 
 -- the first, paid, and then the rest
 after-after : {A B C : Type 0} (o : Outcome A) (f : A → Doing B) (g : B → Doing C)
