@@ -4,7 +4,6 @@ use mathlib.Core.Path.{◌≡◌, refl, ap, ◌∙◌}
 use mathlib.Core.Bool.{Bool, true, false, ◌&&◌}
 use mathlib.Core.Bool as B
 use mathlib.Core.List.{List}
-use mathlib.Core.Logic.{◌⊎◌, ⊎_elim}
 use Prim.Native.Nat.{ℕ, ◌+◌, ◌<◌}
 use native.Mathlib.Omega.{arith}
 use lib.Dec.{eqb, ltb}
@@ -24,13 +23,11 @@ use Rattle.bound.specs.Sums.{capped, weight_on}
 use Rattle.bound.specs.Flags.{leads_on}
 
 -- of a kind and a number that name a junction, and of those that name something else
-other-kind : (k n : ℕ) {s : Source} (tag : Source → ℕ) → ((j : JunctionNo) → tag (Junction j) ≡ 2) → s ≡ source_named k n
-    → (tag s ≡ 0) ⊎ ((tag s ≡ 1) ⊎ (tag s ≡ 3)) → (t : Bool) → eqb k 2 ≡ t → t ≡ false
+other-kind : (k n : ℕ) {s : Source} → s ≡ source_named k n → ((j : JunctionNo) → s ≡ Junction j → ⊥)
+    → (t : Bool) → eqb k 2 ≡ t → t ≡ false
 unfolding if◌then◌else◌
-other-kind k n {s} tag at e other true p =
-    let two : tag s ≡ 2 = ap tag (e ∙ rw (eqb-true k 2 p)) ∙ at (record { 0 = n }) in
-    absurd (⊎_elim (λ w. omega arith) (λ w. ⊎_elim (λ v. omega arith) (λ v. omega arith) w) other)
-other-kind k n tag at e other false p = refl
+other-kind k n e other true p = absurd (other (record { 0 = n }) (e ∙ rw (eqb-true k 2 p)))
+other-kind k n e other false p = refl
 
 junction-kind : (k n : ℕ) {s : Source} (j : JunctionNo) → s ≡ source_named k n → s ≡ Junction j
     → (t u v : Bool) → eqb k 0 ≡ t → eqb k 1 ≡ u → eqb k 2 ≡ v → (v ≡ true) × (j.0 ≡ n)
@@ -45,9 +42,8 @@ module _ (c : Chart) (t : Segment) {h : Header} (own : h ≡ header_of c) where
     own_read : s ≡ source_named (source_kind c t) (source c t)
     own_read = read ∙ rw own
 
-    pub starts-elsewhere : (tag : Source → ℕ) → ((j : JunctionNo) → tag (Junction j) ≡ 2)
-        → (tag s ≡ 0) ⊎ ((tag s ≡ 1) ⊎ (tag s ≡ 3)) → eqb (source_kind c t) 2 ≡ false
-    starts-elsewhere tag at other = other-kind (source_kind c t) (source c t) tag at own_read other (eqb (source_kind c t) 2) refl
+    pub starts-elsewhere : ((j : JunctionNo) → s ≡ Junction j → ⊥) → eqb (source_kind c t) 2 ≡ false
+    starts-elsewhere other = other-kind (source_kind c t) (source c t) own_read other (eqb (source_kind c t) 2) refl
 
     pub starts-on : {j : JunctionNo} → s ≡ Junction j → (eqb (source_kind c t) 2 ≡ true) × (j.0 ≡ source c t)
     starts-on {j} e = junction-kind (source_kind c t) (source c t) j own_read e _ _ _ refl refl refl

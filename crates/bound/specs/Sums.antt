@@ -1,5 +1,5 @@
 -- Sums that stop above the limit, the sums of W over the segments of each junction, and the bound's answer. Assumes nothing.
-use Rattle.std.specs.Prelude.{List, [], map, ℕ, zero, suc, ◌+◌, min, get_or, replicate}
+use Rattle.std.specs.Prelude.{List, map, ℕ, zero, suc, ◌+◌, min, get_or}
 use Rattle.rules.specs.Lists.{if◌then◌else◌, below, keep, sum_over}
 use Rattle.rules.specs.Chart.{State, Segment, Chart, segments, condition, condition_action, during, destination, ends_on_state, starts_at, from_junction}
 use Rattle.rules.specs.Doing.{Refusal, because, most_units}
