@@ -4,7 +4,7 @@ use Rattle.std.specs.Prelude.{Bool, ◌&&◌, ◌≡◌, List, [], ◌∷◌, ma
 use Rattle.std.proofs.Math.Bool as B
 use Rattle.rules.specs.Bytes.{Bytes}
 use Rattle.rules.specs.Lists.{up_from, every}
-use Rattle.rules.specs.Chart.{Chart, Block, Instruction, states, junctions, segments, variables, instructions, state_at, junction_at, segment_at, variable_at, instruction_at, junction_parent, entry, during, exit, condition, condition_action, transition_action}
+use Rattle.rules.specs.Chart.{Chart, Block, Instruction, states, state_at, junction_at, segment_at, variable_at, instruction_at, junction_parent, entry, during, exit, condition, condition_action, transition_action}
 use Rattle.rules.specs.Accept.{Place, in_condition, in_action, in_sending_action, op_rule, barred, ends_at, stack_right, record_right, state_right, segment_right, block_right, instruction_right, stack_use_right, nothing_barred}
 use Rattle.rules.specs.declared.headers.Header.{Header}
 use Rattle.chart.specs.Places.{header_of, instruction_place}
