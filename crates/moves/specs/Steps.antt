@@ -3,7 +3,7 @@ use Rattle.std.specs.Prelude.{Bool, true}
 use Rattle.rules.specs.Lists.{if◌then◌else◌, ◌else◌}
 use Rattle.rules.specs.Chart.{State, Segment, Chart, parent, initial, entry, exit, junction_parent, destination, ends_on_state, keeps_history, over}
 use Rattle.rules.specs.Image.{Image, recorded, activate, deactivate, record_child}
-use Rattle.rules.specs.Doing.{Done, ◌>>=◌, ◌>>◌, change, pay, state_entered, state_left, note}
+use Rattle.rules.specs.Doing.{Done, ◌>>◌, change, pay, state_entered, state_left, note}
 use Rattle.rules.specs.Block.{action}
 use Rattle.rules.specs.Fire.{parent_records, on_the_way}
 
