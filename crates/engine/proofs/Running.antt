@@ -90,11 +90,11 @@ module _ (c : Chart) (sends e : ℕ) (f : State → Done) (p : State) where
       edge-then (outer c p) _ n ∙ after_same o rest_then ∙ sym (after-after o _ _)
 
 -- a run is a run by itself, then of the children
-pub run_alone : (c : Chart) (sends e d : ℕ) (p : State) (n : Now)
+pub run-alone : (c : Chart) (sends e d : ℕ) (p : State) (n : Now)
     → run c (send c sends) e (suc d) p n
     ≡ after (run_alone c sends e p n) (λ b. if b then done else run_children c (run c (send c sends) e d) p)
 unfolding run run_alone ◌>>=◌ ◌>>◌
-run_alone c sends e d p n =
+run-alone c sends e d p n =
     after_same (pay n) (λ _ n'. outer-then c sends e (run c (send c sends) e d) p n') ∙ sym (after-after (pay n) _ _)
 
 -- the active children of p from a up to e, run one after the other
@@ -334,7 +334,7 @@ module _ (c : Chart) (sends e : ℕ) where
     unfolding ◌>>◌
     alone-first =
         let z : levels - d ≡ suc (deepest - d) = omega arith in
-        rw z (ap (λ (o : Outcome (Unit {0})). after o (λ _. climb d p)) (run_alone c sends e (deepest - d) p n))
+        rw z (ap (λ (o : Outcome (Unit {0})). after o (λ _. climb d p)) (run-alone c sends e (deepest - d) p n))
 
     alone-refused : {r : Refusal} → run_alone c sends e p n ≡ refused r → (running (levels - d) p >> climb d p) n ≡ refused r
     alone-refused q = alone-first ∙ rw q

@@ -3,7 +3,6 @@
 use mathlib.Core.Path.{◌≡◌, refl, sym, ◌∙◌}
 use mathlib.Core.Bool.{Bool, true, false, ◌||◌, false≢true}
 use mathlib.Core.Bool as B
-use mathlib.Core.Logic.{◌⊎◌}
 use mathlib.Core.List.{List, [], ◌∷◌}
 use Prim.Native.Nat.{ℕ, zero, suc, ◌+◌, ◌-◌, ◌*◌, ◌≤◌, ◌<◌}
 use native.Mathlib.Omega.{arith}
@@ -11,7 +10,6 @@ use lib.Dec.{eqb}
 use lib.ListN.{length, take, drop}
 use lib.IntN.{ℤ, pos}
 use borrow.Author.Tests.{eq-eqb, ne_eqb}
-use denote.Enum.Declared.{tag_of}
 use Rattle.rules.specs.Bytes.{Bytes, byte, is_zero}
 use Rattle.rules.specs.Lists.{if◌then◌else◌}
 use Rattle.rules.specs.Chart.{Chart, State, Op, Block, Instruction, block_at, code}
@@ -34,7 +32,6 @@ use Rattle.doing.specs.declared.Done.{Done}
 use Rattle.doing.specs.declared.Done.TheVariants.{Refused, Went}
 use Rattle.doing.specs.declared.Verdict.{Verdict}
 use Rattle.doing.specs.declared.Verdict.TheVariants as verdict
-use Rattle.doing.specs.contracts.Verdict.{the_type}
 use Rattle.blocks.specs.Stacks.{stack_of, Cells}
 use Rattle.blocks.specs.Performed.{ran_of}
 use Rattle.blocks.specs.declared.instruct.Left.{Left}
@@ -258,7 +255,7 @@ module _ (c : Chart) (sends owner : ℕ) where
           → to_act its_sends part count (k + 1) st (now_of im tr next) ≡ to_act its_sends part count k st n
       act-sent w = no-then v im tr _ told w refl ∙ act-send
 
-      pub act-over : (tag_of the_type v ≡ 0) ⊎ (tag_of the_type v ≡ 1) → verdict_of v im tr ≡ to_act its_sends part count k st n
+      pub act-over : ((k : Counts) → v ≡ verdict.No k → ⊥) → verdict_of v im tr ≡ to_act its_sends part count k st n
       act-over w = over-ends v im tr _ told w ∙ act-send
 
 -- a block's loop: what is still to perform is what was to perform at its start, and the cells hold the stack
@@ -331,7 +328,7 @@ module _ (c : Chart) (sends owner t : ℕ) (n : Now) where
 
 -- a segment is tried: it fails, or it passes and goes on
 module _ (c : Chart) (sends e owner m t : ℕ) (n : Now) {all : Outcome Try} (im : Image) (tr : List ℕ) where
-  pub tried-fails : (v : Verdict) → (tag_of the_type v ≡ 0) ⊎ (tag_of the_type v ≡ 2) → verdict_of v im tr ≡ tested c e t n
+  pub tried-fails : (v : Verdict) → ((k : Counts) → v ≡ verdict.Yes k → ⊥) → verdict_of v im tr ≡ tested c e t n
       → all ≡ after (verdict_of v im tr) (λ _. give failed) → all ≡ tried c sends e owner m t n
   unfolding tried ◌>>=◌
   tried-fails v w told is = is ∙ failed_ends failed v im tr _ told w

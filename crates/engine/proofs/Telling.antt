@@ -1,12 +1,9 @@
 -- An answer, and all that is to do. A doing that is refused is told on as the answer of all, and one that went leaves its
 -- counts to what follows, fewer units after a pay; a test ends all, or what follows goes on. Assumes nothing.
-use mathlib.Core.Path.{◌≡◌, sym}
+use mathlib.Core.Path.{◌≡◌, refl, sym}
 use mathlib.Core.Bool.{Bool, true}
-use mathlib.Core.Logic.{◌⊎◌, ⊎_elim}
 use mathlib.Core.List.{List}
 use Prim.Native.Nat.{ℕ, ◌<◌}
-use native.Mathlib.Omega.{arith}
-use denote.Enum.Declared.{tag_of}
 use Rattle.rules.specs.Lists.{if◌then◌else◌}
 use Rattle.rules.specs.Image.{Image}
 use Rattle.rules.specs.Doing.{Now, Outcome, Doing, after, give, pay}
@@ -18,7 +15,6 @@ use Rattle.doing.specs.declared.Done.{Done}
 use Rattle.doing.specs.declared.Done.TheVariants as done
 use Rattle.doing.specs.declared.Verdict.{Verdict}
 use Rattle.doing.specs.declared.Verdict.TheVariants as verdict
-use Rattle.doing.specs.contracts.Verdict.{the_type}
 use Rattle.doing.proofs.Laws.{went_on}
 
 -- a doing's answer
@@ -45,11 +41,11 @@ module _ (v : Verdict) (im : Image) (tr : List ℕ) (m : Doing Bool) {o : Outcom
   no-then w next = rw (sym says, w) next
 
 pub over-ends : (v : Verdict) (im : Image) (tr : List ℕ) (m : Doing Bool) {o : Outcome Bool} → verdict_of v im tr ≡ o
-    → (tag_of the_type v ≡ 0) ⊎ (tag_of the_type v ≡ 1) → verdict_of v im tr ≡ after o (unless_over m)
+    → ((k : Counts) → v ≡ verdict.No k → ⊥) → verdict_of v im tr ≡ after o (unless_over m)
 unfolding give if◌then◌else◌
 over-ends (verdict.Refused r) im tr m says w = rw (sym says)
 over-ends (verdict.Yes k) im tr m says w = rw (sym says)
-over-ends (verdict.No k) im tr m says w = absurd (⊎_elim (λ z. omega (arith, z)) (λ z. omega (arith, z)) w)
+over-ends (verdict.No k) im tr m says w = absurd (w k refl)
 
 -- a test whose no ends all: refused or no, what is given at a no is told; yes, and what follows goes on
 module _ {A : Type 0} (a : A) where
@@ -59,9 +55,9 @@ module _ {A : Type 0} (a : A) where
   yes-then im tr m says w next = rw (sym says, w) next
 
   pub failed_ends : (v : Verdict) (im : Image) (tr : List ℕ) (m : Doing A) {o : Outcome Bool} → verdict_of v im tr ≡ o
-      → (tag_of the_type v ≡ 0) ⊎ (tag_of the_type v ≡ 2)
+      → ((k : Counts) → v ≡ verdict.Yes k → ⊥)
       → after (verdict_of v im tr) (λ _. give a) ≡ after o (λ b. if b then m else give a)
   unfolding if◌then◌else◌
   failed_ends (verdict.Refused r) im tr m says w = rw (sym says)
-  failed_ends (verdict.Yes k) im tr m says w = absurd (⊎_elim (λ z. omega (arith, z)) (λ z. omega (arith, z)) w)
+  failed_ends (verdict.Yes k) im tr m says w = absurd (w k refl)
   failed_ends (verdict.No k) im tr m says w = rw (sym says)

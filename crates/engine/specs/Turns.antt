@@ -1,5 +1,5 @@
 -- Whose turn it is in a run, the states taken one after the other. Assumes nothing.
-use Rattle.std.specs.Prelude.{Bool, ℕ, zero, suc, ◌+◌, eqb, ltb, leb}
+use Rattle.std.specs.Prelude.{ℕ, zero, suc, ◌+◌, eqb, ltb, leb}
 use Rattle.rules.specs.Lists.{if◌then◌else◌, first}
 use Rattle.rules.specs.Chart.{State, Chart, deepest, parent, is_one_of}
 use Rattle.rules.specs.Image.{Image, is_active}

@@ -1,0 +1,7 @@
+-- `stepping::start` meets its contract: the start is the entering of the root. Assumes nothing.
+use Rattle.rules.specs.Run as rules
+use Rattle.engine.proofs.stepping.start.Goals as goal
+
+pub returns : goal.returns
+unfolding rules.start
+returns c = c.enter.ensures
