@@ -71,8 +71,7 @@ fn step_part(chart: &[u8], part: &mut [u8], trace: &mut [u8], event: u32, allowa
 }
 
 // One step of a lift. The answer is refusal + 256 x items + 131,072 x units.
-#[unsafe(no_mangle)]
-pub extern "C" fn step(
+pub fn step(
     chart: &[u8],
     board: &mut [u8],
     trace: &mut [u8],
@@ -101,8 +100,7 @@ pub extern "C" fn step(
 }
 
 // A lift is made fresh for a chart. The answer is the refusal.
-#[unsafe(no_mangle)]
-pub extern "C" fn fresh(chart: &[u8], board: &mut [u8], lift: u32) -> u64
+pub fn fresh(chart: &[u8], board: &mut [u8], lift: u32) -> u64
     ensures { record { answer = result; board = board.new; trace = [] } ≡ rules.observed (rules.fresh_call chart.now board.old lift) }
 {
     let refusal = checker::refusal(chart);
@@ -120,8 +118,7 @@ pub extern "C" fn fresh(chart: &[u8], board: &mut [u8], lift: u32) -> u64
 }
 
 // The bound of a chart. The answer is refusal + 256 x bound.
-#[unsafe(no_mangle)]
-pub extern "C" fn bound(chart: &[u8]) -> u64
+pub fn bound(chart: &[u8]) -> u64
     ensures { record { answer = result; board = []; trace = [] } ≡ rules.observed (rules.bound_call chart.now) }
 {
     let refusal = checker::refusal(chart);

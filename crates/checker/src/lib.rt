@@ -121,11 +121,3 @@ pub fn refusal(chart: &[u8]) -> u8
     }
     0
 }
-
-// The same for a host in C.
-#[unsafe(no_mangle)]
-pub extern "C" fn afraulenc_check(chart: &[u8]) -> u8
-    ensures { result ≡ rules.chart_refusal chart.now }
-{
-    refusal(chart)
-}

@@ -7,8 +7,8 @@ use chart::blocks::Block;
 use chart::headers;
 use doing::{Counts, Done};
 use image::variables;
-use libc::STDOUT_FILENO;
 use rules::images::Image;
+use std::io;
 
 const ROUNDS: u32 = 100000;
 
@@ -94,17 +94,16 @@ fn again(chart: &[u8], image: &mut [u8]) -> u32 {
     ROUNDS
 }
 
-fn number(n: u32) {
-    io::print_decimal(STDOUT_FILENO, n as u64);
-    io::write_all(STDOUT_FILENO, b"\n");
+fn number(rt: &impl Print, n: u32) -> io::Result<()> {
+    rt.println(n)
 }
 
-fn main() {
+fn main(rt: HostRuntime) -> io::Result<()> {
     let mut chart = [0u8; LENGTH];
     build(&mut chart);
     let mut image = [0u8; Image::SIZE];
-    number(again(&chart, &mut image));
-    number(variables::number(&image, 0));
-    number(variables::number(&image, 1));
-    number(variables::number(&image, 2));
+    number(&rt, again(&chart, &mut image))?;
+    number(&rt, variables::number(&image, 0))?;
+    number(&rt, variables::number(&image, 1))?;
+    number(&rt, variables::number(&image, 2))
 }

@@ -2,24 +2,31 @@
 // each.
 #![tactic(auto)]
 
-ghost use Rattle.std.specs.Prelude.{◌≡◌};
+ghost use Rattle.std.specs.Prelude.{◌≡◌, ◌≤◌, length, IfOk};
 ghost use Rattle.session.specs.Said.{after_events, after_chart};
 
-use libc::{STDIN_FILENO, STDOUT_FILENO};
 use rules::images::Image;
 use rules::items::Item;
+use std::io;
+use std::io::{Read, Write};
 
 mod lines; // numbers as text, in a line
 mod records; // what a session is made of
 mod saying; // the lines of the calls
 
-fn say_bad() {
-    io::write_all(STDOUT_FILENO, b"bad session\n");
+fn say_bad<W: Write>(out: &mut W) -> io::Result<()> {
+    out.write_all(b"bad session\n")
 }
 
 // A line for each event, up to a record that is none; how many lines were said.
-fn say_events(chart: &[u8], board: &mut [u8], trace: &mut [u8], events: &[u8]) -> usize
-    ensures { record { board = board.exit.now; trace = trace.new; lines = result } ≡ after_events chart.now board.entry.now trace.old 0 events.now }
+fn say_events<W: Write>(
+    out: &mut W,
+    chart: &[u8],
+    board: &mut [u8],
+    trace: &mut [u8],
+    events: &[u8],
+) -> io::Result<usize>
+    ensures { IfOk result (λ said. record { board = board.new; trace = trace.new; lines = said } ≡ after_events chart.now board.old trace.old 0 events.now) }
 {
     let mut line = [0u8; lines::LONGEST];
     let mut at = 0;
@@ -27,46 +34,69 @@ fn say_events(chart: &[u8], board: &mut [u8], trace: &mut [u8], events: &[u8]) -
     while at < events.len() {
         let record = &events[at..];
         if !records::is_event(record) {
-            say_bad();
-            return said + 1;
+            say_bad(out)?;
+            return Ok(said + 1);
         }
         let length = saying::step(chart, board, trace, record[2], &mut line);
-        io::write_all(STDOUT_FILENO, &line[..length]);
+        out.write_all(&line[..length])?;
         said += 1;
         at += records::EVENT;
     }
-    said
+    Ok(said)
 }
 
 // The chart's line, and the events' lines on a lift that is made fresh for it; how many these were.
-fn say_chart(chart: &[u8], board: &mut [u8], trace: &mut [u8], events: &[u8]) -> usize
-    ensures { record { board = board.exit.now; trace = trace.new; lines = result } ≡ after_chart chart.now board.entry.now trace.old events.now }
+fn say_chart<W: Write>(
+    out: &mut W,
+    chart: &[u8],
+    board: &mut [u8],
+    trace: &mut [u8],
+    events: &[u8],
+) -> io::Result<usize>
+    ensures { IfOk result (λ said. record { board = board.new; trace = trace.new; lines = said } ≡ after_chart chart.now board.old trace.old events.now) }
 {
     let mut line = [0u8; lines::LONGEST];
     let said = saying::bound(chart, &mut line);
-    io::write_all(STDOUT_FILENO, &line[..said.length]);
+    out.write_all(&line[..said.length])?;
     if !said.more {
-        return 0;
+        return Ok(0);
     }
     afraulenc::fresh(chart, board, 0);
-    say_events(chart, board, trace, events)
+    say_events(out, chart, board, trace, events)
 }
 
-fn main() {
+// Reads until the bytes are full or the input ends; how many came.
+fn read_full<R: Read>(input: &mut R, bytes: &mut [u8]) -> io::Result<usize>
+    ensures { IfOk result (λ came. came ≤ length bytes.new) }
+{
+    let mut length = 0;
+    while length < bytes.len() {
+        let came = input.read(&mut bytes[length..])?;
+        if came == 0 {
+            break;
+        }
+        length += came;
+    }
+    Ok(length)
+}
+
+fn main(rt: HostRuntime) -> io::Result<()> {
+    let mut out = rt.stdout();
     let mut input = [0u8; records::MOST + 1]; // a byte more, to see that there is more
-    let length = io::read_full(STDIN_FILENO, &mut input);
+    let length = read_full(&mut rt.stdin(), &mut input)?;
     let session = &input[..length];
     if records::is_bad(session) {
-        say_bad();
-        return;
+        return say_bad(&mut out);
     }
     let events = records::chart_end(session);
     let mut board = [0u8; Image::SIZE];
     let mut trace = [0u8; Item::SIZE * Item::MOST];
     say_chart(
+        &mut out,
         &session[records::CHART..events],
         &mut board,
         &mut trace,
         &session[events..],
-    );
+    )?;
+    Ok(())
 }
