@@ -17,9 +17,8 @@ use Rattle.rules.specs.Chart.{Chart, events}
 use Rattle.rules.specs.Accept.{◌unless◌next◌, chart_refusal}
 use Rattle.rules.specs.Image.{Image, image_size, accepted, fresh_image}
 use Rattle.rules.specs.Doing.{because, Outcome, refused, went, most_units}
-use Rattle.rules.specs.Run.{step}
 use Rattle.rules.specs.Types.{part_of, part_number}
-use Rattle.rules.specs.Calls.{Board, part, with_part, has_part, part_refusal, number_only, unless_refused, fresh_call, begin, step_refusal, step_answer, step_call, Observed, packed, observed}
+use Rattle.rules.specs.Calls.{Board, part, with_part, has_part, part_refusal, number_only, unless_refused, fresh_call, step_refusal, step_answer, step_call, Observed, packed, observed}
 use Rattle.rules.specs.declared.images.Image.{Image as Placed}
 use Rattle.rules.specs.declared.images.Part.{Part}
 use Rattle.rules.specs.declared.images.Part.TheVariants.{At, Missing}

@@ -1,13 +1,13 @@
 -- A step on one lift's own part of a board. Assumes nothing.
-use Rattle.std.specs.Prelude.{ℕ, zero, suc, leb}
+use Rattle.std.specs.Prelude.{ℕ, leb}
 use Rattle.rules.specs.Bytes.{Bytes}
 use Rattle.rules.specs.Lists.{within}
 use Rattle.rules.specs.Chart.{Chart, events}
 use Rattle.rules.specs.Accept.{◌unless◌next◌}
 use Rattle.rules.specs.Image.{Image, accepted}
-use Rattle.rules.specs.Doing.{because, most_units}
+use Rattle.rules.specs.Doing.{most_units}
 use Rattle.rules.specs.Run.{step}
-use Rattle.rules.specs.Calls.{Answer, unless_refused, begin, step_answer, Observed, observed}
+use Rattle.rules.specs.Calls.{unless_refused, begin, step_answer, Observed, observed}
 
 -- the part for a board that has no other: lift 0's
 unfoldable pub stepped_on : Chart → Image → Bytes → ℕ → ℕ → Observed
