@@ -5,7 +5,7 @@ use mathlib.Core.List.{[], ◌∷◌}
 use Prim.Native.Nat.{ℕ, ◌/◌, ◌%◌, ◌≤◌}
 use native.Mathlib.Omega.{arith}
 use lib.Dec.{ltb}
-use lib.ListN.{length}
+use lib.ListN.{length, take}
 use lib.Seq.{length-sets}
 use Rattle.rules.specs.Bytes.{Bytes}
 use Rattle.rules.specs.Lists.{within}
@@ -16,7 +16,7 @@ use Rattle.promises.proofs.Unpacking.{step-unpacked, step_fits, bound-unpacked}
 use Rattle.afraulenc.proofs.Testing.{in-range}
 use Rattle.session.specs.Said.{longest, Line, with_text, Told, told}
 use Rattle.session.proofs.Texts.{items-count}
-use Rattle.session.proofs.Numbered.{line-within}
+use Rattle.session.proofs.Numbered.{line-within, line-text}
 
 module _ (c : Chart) {r : ℕ} (so : record { answer = r; board = []; trace = [] } ≡ observed (bound_call c)) where
   pub bound-parts : (r % 256 ≡ (bound_call c).refusal.number) × (r / 256 ≡ (bound_call c).bound)
@@ -60,6 +60,12 @@ module _ (c : Chart) (board : Board) (trace : Bytes) (k e allowance : ℕ) where
     unfolding step_line
     step-within size =
         line-within b a.refusal.number (a.units ∷ a.items ∷ items_in a.items a.trace) said size
+        (omega (arith, items-count a.items a.trace, (step_fits c board trace k e allowance).0))
+
+    pub step-text : length b ≡ longest → take l.end l.bytes ≡ step_line a
+    unfolding step_line
+    step-text size =
+        line-text b a.refusal.number (a.units ∷ a.items ∷ items_in a.items a.trace) said size
         (omega (arith, items-count a.items a.trace, (step_fits c board trace k e allowance).0))
 
     pub step-size : length l.bytes ≡ length b

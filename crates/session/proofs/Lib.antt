@@ -2,3 +2,4 @@ mod Texts
 mod Numbered
 mod Answers
 mod Order
+mod Written

@@ -3,8 +3,8 @@ use mathlib.Core.Path.{◌≡◌, ◌∙◌}
 use mathlib.Core.List.{List, [], ◌∷◌, ◌++◌, append_assoc, append-nil}
 use Prim.Native.Nat.{ℕ, ◌+◌, ◌*◌, ◌≤◌}
 use native.Mathlib.Omega.{arith}
-use lib.ListN.{length, length-append}
-use lib.Seq.{length-sets}
+use lib.ListN.{length, take, drop, length-append}
+use lib.Seq.{length-sets, sets-eq, take-append_seam}
 use Rattle.rules.specs.Bytes.{Bytes, ascii}
 use Rattle.rules.specs.Session.{decimal, line}
 use Rattle.session.specs.Said.{longest, Line, with_text, spaced}
@@ -47,3 +47,12 @@ line-room n ns = simp (line-spaced, length-append) (omega (arith, decimal-room 2
 pub line-within : (b : Bytes) (n : ℕ) (ns : List ℕ) {l : Line} → l ≡ with_text b 0 (line (n ∷ ns)) → length b ≡ longest
     → length ns ≤ 258 → l.end ≤ length l.bytes
 line-within b n ns p size few = rw (p, length-sets b 0 (line (n ∷ ns))) (omega (arith, line-room n ns))
+
+-- and there it is, up to its end
+pub line-text : (b : Bytes) (n : ℕ) (ns : List ℕ) {l : Line} → l ≡ with_text b 0 (line (n ∷ ns)) → length b ≡ longest
+    → length ns ≤ 258 → take l.end l.bytes ≡ line (n ∷ ns)
+line-text b n ns p size few =
+    let text = line (n ∷ ns) in
+    let ends : 0 + length text ≤ length b = omega (arith, line-room n ns, size) in
+    let from-start : 0 + length text ≡ length text = omega arith in
+    rw (p, from-start, sets-eq text b 0 ends) (take-append_seam text (drop (0 + length text) b))

@@ -1,6 +1,6 @@
 -- What the session program's functions leave: the text of a line, put into bytes; and what its calls leave of a lift. Assumes
 -- nothing.
-use Rattle.std.specs.Prelude.{Bool, ◌&&◌, List, [], ◌∷◌, ◌++◌, ℕ, ◌+◌, ◌*◌, leb, length}
+use Rattle.std.specs.Prelude.{Bool, ◌&&◌, List, [], ◌∷◌, ◌++◌, ℕ, ◌+◌, ◌*◌, ◌≡◌, ◌⊎◌, leb, length, take}
 use Rattle.std.proofs.lemmas.List.Edits.{sets}
 use Rattle.rules.specs.Bytes.{Bytes, ascii}
 use Rattle.rules.specs.Chart.{Chart}
@@ -8,7 +8,7 @@ use Rattle.rules.specs.Accept.{marked}
 use Rattle.rules.specs.Lists.{if◌then◌else◌, within}
 use Rattle.rules.specs.Doing.{most_units}
 use Rattle.rules.specs.Calls.{Board, Answer, fresh_call, bound_call, step_call}
-use Rattle.rules.specs.Session.{decimal, line, step_line}
+use Rattle.rules.specs.Session.{decimal, line, step_line, event_lines}
 
 -- the bytes of the longest line: a refusal, units, a count and 256 items, of 20 digits and a space or the line's end each
 abbrev pub longest : ℕ
@@ -66,3 +66,20 @@ unfoldable pub after_chart : Chart → Board → Bytes → Bytes → Lent
 after_chart c board trace events =
     let goes = after_events c (fresh_call c board 0).board trace 0 events in
     (if within 1 11 (bound_call c).refusal.number then record { board = board; trace = trace; lines = 0 } else goes)
+
+-- what a chart and its events say, the calls being lent that board and that trace
+unfoldable pub chart_text : Chart → Board → Bytes → Bytes → Bytes
+chart_text c board trace events =
+    let lines = event_lines c (fresh_call c board 0).board trace events in
+    bound_line c ++ (if within 1 11 (bound_call c).refusal.number then [] else lines)
+
+-- a board and a trace are what the events' first bytes leave, so many of them
+pub record LeftBySome (c : Chart) (board : Board) (trace events : Bytes) (board' : Board) (trace' : Bytes) : Type 0 where
+  pub bytes : ℕ
+  pub lines : ℕ
+  pub left : record { board = board'; trace = trace'; lines = lines } ≡ after_events c board trace 0 (take bytes events)
+
+-- they are as they were, or the lift was made fresh and some of the events were stepped
+abbrev pub LeftAtMost : Chart → Board → Bytes → Bytes → Board → Bytes → Type 0
+LeftAtMost c board trace events board' trace' =
+    ((board' ≡ board) × (trace' ≡ trace)) ⊎ LeftBySome c (fresh_call c board 0).board trace events board' trace'

@@ -2,8 +2,10 @@
 // each.
 #![tactic(auto)]
 
-ghost use Rattle.std.specs.Prelude.{◌≡◌, ◌≤◌, length, IfOk};
-ghost use Rattle.session.specs.Said.{after_events, after_chart};
+ghost use Rattle.std.specs.Prelude.{◌≡◌, ◌≤◌, length, take, IfSome, IfOk, OnOk, OnErr};
+ghost use Rattle.std.specs.Io.KnownBytes.{Appends};
+ghost use Rattle.rules.specs.Session.{bad_session, event_lines, session};
+ghost use Rattle.session.specs.Said.{after_events, after_chart, chart_text, LeftBySome, LeftAtMost};
 
 use rules::images::Image;
 use rules::items::Item;
@@ -14,11 +16,14 @@ mod lines; // numbers as text, in a line
 mod records; // what a session is made of
 mod saying; // the lines of the calls
 
-fn say_bad<W: Write>(out: &mut W) -> io::Result<()> {
+fn say_bad<W: Write>(out: &mut W) -> io::Result<()>
+    ensures { OnOk result (Appends (W.contents out.old) (W.contents out.new) bad_session) }
+{
     out.write_all(b"bad session\n")
 }
 
-// A line for each event, up to a record that is none; how many lines were said.
+// A line for each event, up to a record that is none; how many lines were said. Where a line cannot be written, the steps of the
+// events up to there are made, and no other.
 fn say_events<W: Write>(
     out: &mut W,
     chart: &[u8],
@@ -26,7 +31,9 @@ fn say_events<W: Write>(
     trace: &mut [u8],
     events: &[u8],
 ) -> io::Result<usize>
-    ensures { IfOk result (λ said. record { board = board.new; trace = trace.new; lines = said } ≡ after_events chart.now board.old trace.old 0 events.now) }
+    ensures leaves { IfOk result (λ said. record { board = board.new; trace = trace.new; lines = said } ≡ after_events chart.now board.old trace.old 0 events.now) }
+    ensures writes { OnOk result (Appends (W.contents out.old) (W.contents out.new) (event_lines chart.now board.old trace.old events.now)) }
+    ensures stops { OnErr result (LeftBySome chart.now board.old trace.old events.now board.new trace.new) }
 {
     let mut line = [0u8; lines::LONGEST];
     let mut at = 0;
@@ -53,7 +60,9 @@ fn say_chart<W: Write>(
     trace: &mut [u8],
     events: &[u8],
 ) -> io::Result<usize>
-    ensures { IfOk result (λ said. record { board = board.new; trace = trace.new; lines = said } ≡ after_chart chart.now board.old trace.old events.now) }
+    ensures leaves { IfOk result (λ said. record { board = board.new; trace = trace.new; lines = said } ≡ after_chart chart.now board.old trace.old events.now) }
+    ensures writes { OnOk result (Appends (W.contents out.old) (W.contents out.new) (chart_text chart.now board.old trace.old events.now)) }
+    ensures stops { OnErr result (LeftAtMost chart.now board.old trace.old events.now board.new trace.new) }
 {
     let mut line = [0u8; lines::LONGEST];
     let said = saying::bound(chart, &mut line);
@@ -67,7 +76,8 @@ fn say_chart<W: Write>(
 
 // Reads until the bytes are full or the input ends; how many came.
 fn read_full<R: Read>(input: &mut R, bytes: &mut [u8]) -> io::Result<usize>
-    ensures { IfOk result (λ came. came ≤ length bytes.new) }
+    ensures within { IfOk result (λ came. came ≤ length bytes.new) }
+    ensures front { IfOk result (λ came. IfSome (R.remaining input.old) (λ given. take came bytes.new ≡ take (length bytes.new) given)) }
 {
     let mut length = 0;
     while length < bytes.len() {
@@ -80,23 +90,29 @@ fn read_full<R: Read>(input: &mut R, bytes: &mut [u8]) -> io::Result<usize>
     Ok(length)
 }
 
-fn main(rt: HostRuntime) -> io::Result<()> {
-    let mut out = rt.stdout();
-    let mut input = [0u8; records::MOST + 1]; // a byte more, to see that there is more
-    let length = read_full(&mut rt.stdin(), &mut input)?;
-    let session = &input[..length];
+// A session is read, and what it says is written.
+fn say_session<R: Read, W: Write>(input: &mut R, out: &mut W) -> io::Result<()>
+    ensures { OnOk result (IfSome (R.remaining input.old) (λ given. Appends (W.contents out.old) (W.contents out.new) (session given))) }
+{
+    let mut bytes = [0u8; records::MOST + 1]; // a byte more, to see that there is more
+    let length = read_full(input, &mut bytes)?;
+    let session = &bytes[..length];
     if records::is_bad(session) {
-        return say_bad(&mut out);
+        return say_bad(out);
     }
     let events = records::chart_end(session);
     let mut board = [0u8; Image::SIZE];
     let mut trace = [0u8; Item::SIZE * Item::MOST];
     say_chart(
-        &mut out,
+        out,
         &session[records::CHART..events],
         &mut board,
         &mut trace,
         &session[events..],
     )?;
     Ok(())
+}
+
+fn main(rt: HostRuntime) -> io::Result<()> {
+    say_session(&mut rt.stdin(), &mut rt.stdout())
 }
