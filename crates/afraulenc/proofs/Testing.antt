@@ -12,7 +12,7 @@ use lib.Dec.{leb, ltb}
 use lib.ListN.{length, drop, take-append-drop, length-drop, drop_of_length-le}
 use lib.Seq.{length-take-le, drop-drop}
 use Rattle.rules.specs.Bytes.{Bytes}
-use Rattle.rules.specs.Lists.{if◌then◌else◌, within, ◌else◌}
+use Rattle.rules.specs.Lists.{when◌then◌else◌, within, ◌else◌}
 use Rattle.rules.specs.Chart.{Chart, events}
 use Rattle.rules.specs.Accept.{◌unless◌next◌, chart_refusal}
 use Rattle.rules.specs.Image.{Image, image_size, accepted, fresh_image}
@@ -83,9 +83,9 @@ module _ (board : Board) (k : ℕ) {p : Part} (found : p ≡ part_of k (length b
   unfolding part_number
   there a = sym (part-number board k) ∙ ap part_number (sym found ∙ a)
 
-  placed : {im : Placed} (t : Bool) → has_part (length board) k ≡ t → (if t then At (record { at = image_size * k }) else Missing) ≡ At im
+  placed : {im : Placed} (t : Bool) → has_part (length board) k ≡ t → (when t then At (record { at = image_size * k }) else Missing) ≡ At im
       → (im.at ≡ image_size * k) × (image_size * k + image_size ≤ length board)
-  unfolding if◌then◌else◌
+  unfolding when◌then◌else◌
   placed {im} true has e =
       let q : record { at = image_size * k } ≡ im = cc in
       (sym (ap (λ (x : Placed). x.at) q), leb-true (image_size * k + image_size) (length board) (both (leb k 63) (leb (image_size * k + image_size) (length board)) has).1)

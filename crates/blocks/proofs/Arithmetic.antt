@@ -12,7 +12,7 @@ use borrow.Author.Tests.{ltb-true, ltb-false, lt-ltb, le-ltb, eqb-true, eqb-fals
 use mir.Syntax.{Width, w32, w64}
 use mir.Val.{SFits, to_z, of_z}
 use mir.ValLaws.{to_z-of_z}
-use Rattle.rules.specs.Lists.{if◌then◌else◌}
+use Rattle.rules.specs.Lists.{when◌then◌else◌}
 use Rattle.rules.specs.Bytes.{fits, equals, is_zero}
 use Rattle.blocks.specs.Values.{within32, quotient_of, remainder_of, combined}
 use Rattle.blocks.specs.declared.values.Checked.TheVariants.{Is, Outside}
@@ -27,11 +27,11 @@ widened v = read w64 (read w32 v)
 
 -- `within32` on each side of its test
 inside : (z : ℤ) → SFits w32 z → within32 z ≡ Is z
-unfolding within32 fits if◌then◌else◌
+unfolding within32 fits when◌then◌else◌
 inside z f = rw (lt-ltb (mag z) 2147483648 f.sfits)
 
 outside : (z : ℤ) → 2147483648 ≤ mag z → within32 z ≡ Outside
-unfolding within32 fits if◌then◌else◌
+unfolding within32 fits when◌then◌else◌
 outside z h = rw (le-ltb (mag z) 2147483648 h)
 
 -- the two tests of `narrow`: one that is met shows a value outside, and two that are not a value of 32 bits
@@ -173,11 +173,11 @@ module _ (x y : ℤ) (f : SFits w32 y) (e : of_z w32 y ≡ 0) where
   zero-divisor = sym (zero_bits y f) ∙ eq-eqb (of_z w32 y) 0 e
 
   pub no-quotient : Outside ≡ quotient_of x y
-  unfolding quotient_of if◌then◌else◌
+  unfolding quotient_of when◌then◌else◌
   no-quotient = rw zero-divisor
 
   pub no-remainder : Outside ≡ remainder_of x y
-  unfolding remainder_of if◌then◌else◌
+  unfolding remainder_of when◌then◌else◌
   no-remainder = rw zero-divisor
 
 -- division by another
@@ -195,7 +195,7 @@ module _ (x y : ℤ) (fx : SFits w32 x) (fy : SFits w32 y) (ne : of_z w32 y ≡ 
   division = (rw (to_z-of_z w32 y fy) (positive y fy ne), op_fits quot_z quotient_fits x y fx fy)
 
   pub quotient_is : within32 (read w64 (quot_z (widened x) (widened y))) ≡ quotient_of x y
-  unfolding quotient_of if◌then◌else◌
+  unfolding quotient_of when◌then◌else◌
   quotient_is = rw divisor (op-within quot_z quotient_fits x y fx fy)
 
   remainder-wide : read w64 (rem_z (widened x) (widened y)) ≡ rem_z x y
@@ -205,7 +205,7 @@ module _ (x y : ℤ) (fx : SFits w32 x) (fy : SFits w32 y) (ne : of_z w32 y ≡ 
   remainder-cast = rw remainder-wide (remainder-small x y fx fy)
 
   pub remainder_is : Is (read w32 (read w64 (rem_z (widened x) (widened y)))) ≡ remainder_of x y
-  unfolding remainder_of if◌then◌else◌
+  unfolding remainder_of when◌then◌else◌
   remainder_is = rw (divisor, remainder-wide) (ap Is (to_z-of_z w32 (rem_z x y) (remainder-small x y fx fy)))
 
 -- an op that is told, on operands that were handed on

@@ -5,7 +5,7 @@ use Prim.Native.Nat.{ℕ}
 use lib.ListN.{drop}
 use lib.IntN.{ℤ}
 use Rattle.rules.specs.Bytes.{truth, is_zero}
-use Rattle.rules.specs.Lists.{if◌then◌else◌}
+use Rattle.rules.specs.Lists.{when◌then◌else◌}
 use Rattle.rules.specs.Chart.{Instruction}
 use Rattle.rules.specs.Chart as op
 use Rattle.rules.specs.Image.{Image, variable, set_variable}
@@ -32,14 +32,14 @@ answered st (Is v) = give (ran (v onto drop 2 st))
 answered st Outside = refuse 17
 
 if-within : (st : Stack) (z : ℤ) (b : Bool)
-    → (if b then give (ran (z onto drop 2 st)) else refuse 17) ≡ answered st (if b then Is z else Outside)
-unfolding if◌then◌else◌ answered
+    → (when b then give (ran (z onto drop 2 st)) else refuse 17) ≡ answered st (when b then Is z else Outside)
+unfolding when◌then◌else◌ answered
 if-within st z true = refl
 if-within st z false = refl
 
 if-divided : (st : Stack) (m : Doing Ran) (x : Checked) → m ≡ answered st x
-    → (b : Bool) → (if b then refuse 17 else m) ≡ answered st (if b then Outside else x)
-unfolding if◌then◌else◌ answered
+    → (b : Bool) → (when b then refuse 17 else m) ≡ answered st (when b then Outside else x)
+unfolding when◌then◌else◌ answered
 if-divided st m x e true = refl
 if-divided st m x e false = e
 
@@ -111,7 +111,7 @@ module _ (i : Instruction) (st : Stack) (n : Now) {p : Op} (means : op_meant p �
   negated told e less = rw (e, less) (as-told told)
 
   pub barred : p ≡ Send → went (ran st) n ≡ instructed i st n
-  unfolding instruct no_send ◌>>=◌ give if◌then◌else◌
+  unfolding instruct no_send ◌>>=◌ give when◌then◌else◌
   barred told = as-told told
 
   pub ignored : p ≡ Unknown → went (ran st) n ≡ instructed i st n

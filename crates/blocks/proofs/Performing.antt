@@ -12,7 +12,7 @@ use lib.ListN.{length, take, drop, length-drop}
 use lib.Seq.{get_or-take}
 use lib.IntN.{ℤ}
 use Rattle.rules.specs.Bytes.{Bytes, field, signed}
-use Rattle.rules.specs.Lists.{if◌then◌else◌, up_from}
+use Rattle.rules.specs.Lists.{when◌then◌else◌, up_from}
 use Rattle.rules.specs.Chart.{Chart, stack_places, Op, op_of, Instruction, Block, instruction, instruction_at, code}
 use Rattle.rules.specs.Chart as op
 use Rattle.rules.specs.Doing.{Refusal, Now, Outcome, refused, went, Doing, give, refuse, after, ◌>>=◌, ◌>>◌, look, change, pay, note, output_raised, done}
@@ -104,7 +104,7 @@ Within (went (ran st) n) = length st ≤ stack_places
 Within (went abandoned n) = Unit {0}
 
 onto-within : (v : ℤ) (st : Stack) → length st ≤ stack_places → length (v onto st) ≤ stack_places
-unfolding ◌onto◌ if◌then◌else◌
+unfolding ◌onto◌ when◌then◌else◌
 onto-within v st h = by (ltb (length st) stack_places) refl
   where
     by : (b : Bool) → ltb (length st) stack_places ≡ b → length (v onto st) ≤ stack_places
@@ -129,7 +129,7 @@ module _ (i : Instruction) (st : Stack) (h : length st ≤ stack_places) where
   after-within (went a n) = h
 
   instruct-within : (o : Op) (n : Now) → Within (instruct no_send o i st n)
-  unfolding instruct no_send give ◌>>=◌ ◌>>◌ look change if◌then◌else◌
+  unfolding instruct no_send give ◌>>=◌ ◌>>◌ look change when◌then◌else◌
   instruct-within op.push n = onto-within i.b st h
   instruct-within op.load n = onto-within _ st h
   instruct-within op.store n = drop-within 1 st h

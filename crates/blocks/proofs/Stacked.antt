@@ -12,7 +12,7 @@ use borrow.Author.Tests.{lt-ltb, le-ltb}
 use mir.Syntax.{w32}
 use mir.Val.{SFits, to_z, of_z}
 use mir.ValLaws.{to_z-of_z}
-use Rattle.rules.specs.Lists.{if◌then◌else◌}
+use Rattle.rules.specs.Lists.{when◌then◌else◌}
 use Rattle.rules.specs.Chart.{stack_places}
 use Rattle.rules.specs.Block.{◌onto◌}
 use Rattle.blocks.specs.Stacks.{stack_of}
@@ -54,11 +54,11 @@ stack_above cells m (suc n) v h = rw (get_or-set_other cells m n v (pos 0) (λ e
 
 -- a store on top of it; or no cell is left
 pub pushed : (cells : List ℤ) (n : ℕ) (v : ℤ) → length cells ≡ stack_places → n < stack_places → stack_of (set cells n v) (n + 1) ≡ (v onto stack_of cells n)
-unfolding stack_of ◌onto◌ if◌then◌else◌
+unfolding stack_of ◌onto◌ when◌then◌else◌
 pushed cells n v l h =
     let room : n < length cells = omega arith in
     rw (add-one, get_or-set_same cells n v (pos 0) room, stack_above cells n n v (omega arith), stack-length cells n, lt-ltb n stack_places h)
 
 pub full : (cells : List ℤ) (n : ℕ) (v : ℤ) → stack_places ≤ n → stack_of cells n ≡ (v onto stack_of cells n)
-unfolding ◌onto◌ if◌then◌else◌
+unfolding ◌onto◌ when◌then◌else◌
 full cells n v h = rw (stack-length cells n, le-ltb n stack_places h)

@@ -1,7 +1,7 @@
 -- What a binary op gives for two values, or that it is outside 32 bits. Assumes nothing.
 use Rattle.std.specs.Prelude.{ℤ, ◌+ℤ◌, ◌-ℤ◌, ◌*ℤ◌}
 use Rattle.std.specs.Int.Signed.{lt_z, quot_z, rem_z}
-use Rattle.rules.specs.Lists.{if◌then◌else◌}
+use Rattle.rules.specs.Lists.{when◌then◌else◌}
 use Rattle.rules.specs.Bytes.{fits, equals, is_zero, truth}
 use Rattle.rules.specs.Chart as op
 use Rattle.blocks.specs.declared.values.Checked.{Checked}
@@ -11,13 +11,13 @@ use Rattle.blocks.specs.declared.values.Binary.TheVariants.{Add, Subtract, Multi
 
 -- z, where it is a signed 32-bit value
 unfoldable pub within32 : ℤ → Checked
-within32 z = if fits z then Is z else Outside
+within32 z = when fits z then Is z else Outside
 
 unfoldable pub quotient_of : ℤ → ℤ → Checked
-quotient_of x y = if is_zero y then Outside else within32 (quot_z x y)
+quotient_of x y = when is_zero y then Outside else within32 (quot_z x y)
 
 unfoldable pub remainder_of : ℤ → ℤ → Checked
-remainder_of x y = if is_zero y then Outside else Is (rem_z x y)
+remainder_of x y = when is_zero y then Outside else Is (rem_z x y)
 
 unfoldable pub combined : Binary → ℤ → ℤ → Checked
 combined Add x y = within32 (x +ℤ y)

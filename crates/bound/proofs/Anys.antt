@@ -8,7 +8,7 @@ use Prim.Native.Nat.{ℕ}
 use native.Mathlib.Omega.{arith}
 use lib.Dec.{eqb, ltb}
 use borrow.Author.Tests.{eqb-false, le-leb}
-use Rattle.rules.specs.Lists.{if◌then◌else◌, below, any, keep, is_in}
+use Rattle.rules.specs.Lists.{when◌then◌else◌, below, any, keep, is_in}
 use Rattle.chart.proofs.Ranges.{below-range, is_in_range}
 
 pub any_same : (f g : ℕ → Bool) → ((x : ℕ) → f x ≡ g x) → (xs : List ℕ) → any f xs ≡ any g xs
@@ -47,8 +47,8 @@ unfolding any
 any-fewer f g [] e = refl
 any-fewer f g (x ∷ xs) e = fewer (f x) (g x) (any f xs) (any (λ x. f x && g x) xs) e (any-fewer f g xs)
 
-kept_any : (g : ℕ → Bool) (t : Bool) (x : ℕ) (xs : List ℕ) → any g (if t then x ∷ xs else xs) ≡ t && g x || any g xs
-unfolding any if◌then◌else◌
+kept_any : (g : ℕ → Bool) (t : Bool) (x : ℕ) (xs : List ℕ) → any g (when t then x ∷ xs else xs) ≡ t && g x || any g xs
+unfolding any when◌then◌else◌
 kept_any g true x xs = refl
 kept_any g false x xs = refl
 

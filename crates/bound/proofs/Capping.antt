@@ -5,7 +5,7 @@ use mathlib.Core.List.{List, [], ◌∷◌}
 use Prim.Native.Nat.{ℕ, ◌+◌, ◌≤◌, ◌<◌}
 use native.Mathlib.Nat.{add-zero}
 use native.Mathlib.Omega.{arith}
-use Rattle.rules.specs.Lists.{if◌then◌else◌, below, keep, sum_over}
+use Rattle.rules.specs.Lists.{when◌then◌else◌, below, keep, sum_over}
 use Rattle.bound.specs.Sums.{capped}
 use Rattle.bound.proofs.Growing.{sum-none, sum_more, kept-none, kept_more, kept_same, ended}
 
@@ -39,8 +39,8 @@ sum_zeros [] = refl
 sum_zeros (x ∷ xs) = rw (sum_zeros xs)
 
 -- a part that only one way has
-pub either-capped : (t : Bool) (a b : ℕ) → capped (a + (if t then 0 else capped b)) ≡ capped (a + (if t then 0 else b))
-unfolding if◌then◌else◌
+pub either-capped : (t : Bool) (a b : ℕ) → capped (a + (when t then 0 else capped b)) ≡ capped (a + (when t then 0 else b))
+unfolding when◌then◌else◌
 either-capped true a b = refl
 either-capped false a b = omega arith
 

@@ -7,7 +7,7 @@ use Prim.Native.Nat.{ℕ, zero, suc, ◌+◌, ◌≤◌}
 use native.Mathlib.Nat.{add-zero, zero-add}
 use native.Mathlib.Numerals.{add-one}
 use native.Mathlib.Omega.{arith}
-use Rattle.rules.specs.Lists.{if◌then◌else◌, up_from, below, any, keep, sum_over}
+use Rattle.rules.specs.Lists.{when◌then◌else◌, up_from, below, any, keep, sum_over}
 use Rattle.rules.proofs.Sums.{sum-append}
 
 up_more : (a n : ℕ) → up_from a (suc n) ≡ up_from a n ++ ((a + n) ∷ [])
@@ -46,8 +46,8 @@ pub sum_more : (w : ℕ → ℕ) (t : ℕ) → sum_over w (below (t + 1)) ≡ su
 unfolding sum_over
 sum_more w t = rw (below_more t, sum-append w (below t) (t ∷ []), add-zero (w t))
 
-test-append : (t : Bool) (x : ℕ) (l m : List ℕ) → (if t then x ∷ (l ++ m) else (l ++ m)) ≡ (if t then x ∷ l else l) ++ m
-unfolding if◌then◌else◌
+test-append : (t : Bool) (x : ℕ) (l m : List ℕ) → (when t then x ∷ (l ++ m) else (l ++ m)) ≡ (when t then x ∷ l else l) ++ m
+unfolding when◌then◌else◌
 test-append true x l m = refl
 test-append false x l m = refl
 
@@ -63,10 +63,10 @@ module _ (w : ℕ → ℕ) (p : ℕ → Bool) where
 
   module _ (t : ℕ) where
     pub kept_more : p t ≡ true → sum_over w (keep p (below (t + 1))) ≡ sum_over w (keep p (below t)) + w t
-    unfolding keep if◌then◌else◌ sum_over
+    unfolding keep when◌then◌else◌ sum_over
     kept_more e =
         rw (below_more t, keep_append p (below t) (t ∷ []), e, sum-append w (keep p (below t)) (t ∷ []), add-zero (w t))
 
     pub kept_same : p t ≡ false → sum_over w (keep p (below (t + 1))) ≡ sum_over w (keep p (below t))
-    unfolding keep if◌then◌else◌
+    unfolding keep when◌then◌else◌
     kept_same e = rw (below_more t, keep_append p (below t) (t ∷ []), e, append-nil (keep p (below t)))

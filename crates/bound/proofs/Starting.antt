@@ -10,7 +10,7 @@ use lib.Dec.{eqb, ltb}
 use lib.ListN.{get_or}
 use borrow.Author.Tests.{eqb-true, eq-eqb, ne_eqb}
 use Rattle.rules.specs.Bytes.{byte}
-use Rattle.rules.specs.Lists.{if◌then◌else◌}
+use Rattle.rules.specs.Lists.{when◌then◌else◌}
 use Rattle.rules.specs.Chart.{Chart, Block, Segment, source_kind, source, destination, ends_on_state, condition, condition_action, block_at}
 use Rattle.rules.specs.declared.headers.Header.{Header}
 use Rattle.rules.specs.declared.numbers.JunctionNo.{JunctionNo}
@@ -25,13 +25,13 @@ use Rattle.bound.specs.Flags.{leads_on}
 -- of a kind and a number that name a junction, and of those that name something else
 other-kind : (k n : ℕ) {s : Source} → s ≡ source_named k n → ((j : JunctionNo) → s ≡ Junction j → ⊥)
     → (t : Bool) → eqb k 2 ≡ t → t ≡ false
-unfolding if◌then◌else◌
+unfolding when◌then◌else◌
 other-kind k n e other true p = absurd (other (record { 0 = n }) (e ∙ rw (eqb-true k 2 p)))
 other-kind k n e other false p = refl
 
 junction-kind : (k n : ℕ) {s : Source} (j : JunctionNo) → s ≡ source_named k n → s ≡ Junction j
     → (t u v : Bool) → eqb k 0 ≡ t → eqb k 1 ≡ u → eqb k 2 ≡ v → (v ≡ true) × (j.0 ≡ n)
-unfolding if◌then◌else◌
+unfolding when◌then◌else◌
 junction-kind k n j e i true u v p q r = (cc, cc)
 junction-kind k n j e i false true v p q r = (cc, cc)
 junction-kind k n j e i false false true p q r = (refl, cc)
@@ -58,12 +58,12 @@ module _ (c : Chart) (t : Segment) {h : Header} (own : h ≡ header_of c) where
     )
 
     pub weighed-there : a.count < 256 → b.count < 256 → e ≡ true → 1 + a.count + b.count ≡ capped (weight_on c sums t)
-    unfolding weight_on if◌then◌else◌
+    unfolding weight_on when◌then◌else◌
     weighed-there x y on = rw (← own-counts.2, on) (omega (arith, own-counts.0, own-counts.1))
 
     pub weighed-on : e ≡ false → {d r : ℕ} → d ≡ byte c (segment_place h t + 5) → r ≡ capped (1 + a.count + b.count + get_or sums d 0)
         → r ≡ capped (weight_on c sums t)
-    unfolding weight_on if◌then◌else◌
+    unfolding weight_on when◌then◌else◌
     weighed-on off {d} {r} to q =
         let there : d ≡ destination c t = to ∙ rw own in
         rw (← own-counts.2, off, ← own-counts.0, ← own-counts.1, ← there) q

@@ -1,13 +1,13 @@
 -- Junctions by flags: those of a list, and those that one segment more leads to. Assumes nothing.
 use Rattle.std.specs.Prelude.{Bool, ◌&&◌, List, ℕ, eqb, ltb, get_or}
 use Rattle.std.proofs.Math.Bool as B
-use Rattle.rules.specs.Lists.{if◌then◌else◌, below, any}
+use Rattle.rules.specs.Lists.{when◌then◌else◌, below, any}
 use Rattle.rules.specs.Chart.{Segment, Chart, junctions, segments, source_kind, source, destination, ends_on_state}
 use Rattle.bound.specs.Sums.{table}
 
 -- 1 for each number that a junction can have and that passes, else 0
 unfoldable pub flags : (ℕ → Bool) → List ℕ
-flags f = table (λ j. if f j then 1 else 0)
+flags f = table (λ j. when f j then 1 else 0)
 
 abbrev pub is_flagged : List ℕ → ℕ → Bool
 is_flagged fs j = eqb (get_or fs j 0) 1

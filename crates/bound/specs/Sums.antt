@@ -1,6 +1,6 @@
 -- Sums that stop above the limit, the sums of W over the segments of each junction, and the bound's answer. Assumes nothing.
 use Rattle.std.specs.Prelude.{List, map, ℕ, zero, suc, ◌+◌, min, get_or}
-use Rattle.rules.specs.Lists.{if◌then◌else◌, below, keep, sum_over}
+use Rattle.rules.specs.Lists.{when◌then◌else◌, below, keep, sum_over}
 use Rattle.rules.specs.Chart.{State, Segment, Chart, segments, condition, condition_action, during, destination, ends_on_state, starts_at, from_junction}
 use Rattle.rules.specs.Doing.{Refusal, because, most_units}
 use Rattle.rules.specs.Bound.{WWithin, bound, bound_refusal}
@@ -20,7 +20,7 @@ module _ (c : Chart) where
   -- a segment's own, and the sum of the junction that it leads to
   unfoldable pub weight_on : List ℕ → Segment → ℕ
   weight_on sums t =
-      1 + (condition c t).count + (condition_action c t).count + (if ends_on_state c t then 0 else get_or sums (destination c t) 0)
+      1 + (condition c t).count + (condition_action c t).count + (when ends_on_state c t then 0 else get_or sums (destination c t) 0)
 
   unfoldable pub round_of : List ℕ → List ℕ
   round_of sums = table (λ j. capped (sum_over (weight_on sums) (from_junction c j)))

@@ -6,7 +6,7 @@ use Prim.Native.Nat.{ℕ, zero, suc, ◌-◌, ◌<◌}
 use native.Mathlib.Omega.{arith}
 use lib.Dec.{eqb}
 use borrow.Author.Tests.{eqb-true, eqb-false, eq-eqb, ne_eqb}
-use Rattle.rules.specs.Lists.{if◌then◌else◌, any, is_in}
+use Rattle.rules.specs.Lists.{when◌then◌else◌, any, is_in}
 use Rattle.rules.specs.Chart.{Chart, State, parent, lineage}
 
 other-side : (a b : ℕ) (t : Bool) → eqb b a ≡ t → eqb b a ≡ eqb a b
@@ -20,12 +20,12 @@ module _ (c : Chart) (a at : State) where
   here (suc n) q = rw (eq-eqb a at (sym q))
 
   root : (left : ℕ) → 0 < left → (at ≡ a → ⊥) → at ≡ 0 → false ≡ is_in a (lineage c left at)
-  unfolding is_in any lineage if◌then◌else◌
+  unfolding is_in any lineage when◌then◌else◌
   root zero h d q = absurd (omega arith)
   root (suc n) h d q = rw (eq-eqb at 0 q, ne_eqb a at (λ e. d (sym e)))
 
   up : (left : ℕ) → 0 < left → (at ≡ a → ⊥) → (at ≡ 0 → ⊥) → is_in a (lineage c left at) ≡ is_in a (lineage c (left - 1) (parent c at))
-  unfolding is_in any lineage if◌then◌else◌
+  unfolding is_in any lineage when◌then◌else◌
   up zero h d r = absurd (omega arith)
   up (suc n) h d r =
       let q : suc n - 1 ≡ n = omega arith in rw (q, ne_eqb at 0 r, ne_eqb a at (λ e. d (sym e)))

@@ -9,7 +9,7 @@ use native.Mathlib.Nat.{sub-zero, sub-eq-zero_of_le}
 use native.Mathlib.Omega.{arith}
 use lib.Dec.{eqb, leb, ltb}
 use borrow.Author.Tests.{eqb-true, eqb-false, leb-true, leb-false, le-leb, lt-leb, lt-ltb, le-ltb}
-use Rattle.rules.specs.Lists.{if◌then◌else◌, up_from, range, below, every, any, keep, is_in}
+use Rattle.rules.specs.Lists.{when◌then◌else◌, up_from, range, below, every, any, keep, is_in}
 
 pub range-end : (a e : ℕ) → e ≤ a → range a e ≡ []
 unfolding range up_from
@@ -43,11 +43,11 @@ module _ (f : ℕ → Bool) (a e : ℕ) where
   keep-end h = rw (range-end a e h)
 
   pub keep-pass : a < e → f a ≡ true → keep f (range a e) ≡ a ∷ keep f (range (a + 1) e)
-  unfolding keep if◌then◌else◌
+  unfolding keep when◌then◌else◌
   keep-pass h p = rw (range-step a e h, p)
 
   pub keep-skip : a < e → f a ≡ false → keep f (range a e) ≡ keep f (range (a + 1) e)
-  unfolding keep if◌then◌else◌
+  unfolding keep when◌then◌else◌
   keep-skip h p = rw (range-step a e h, p)
 
 -- which numbers are among them
@@ -79,7 +79,7 @@ module _ (f : ℕ → Bool) (s : ℕ) where
 
   kept_step : (x : ℕ) (xs : List ℕ) → is_in s (keep f xs) ≡ is_in s xs && f s
       → (t u : Bool) → eqb s x ≡ t → f x ≡ u → is_in s (keep f (x ∷ xs)) ≡ is_in s (x ∷ xs) && f s
-  unfolding is_in any keep if◌then◌else◌
+  unfolding is_in any keep when◌then◌else◌
   kept_step x xs r true true p q = rw (q, p, same_test x p, q)
   kept_step x xs r true false p q = rw (q, p, r, same_test x p, q) (and-false (any (eqb s) xs))
   kept_step x xs r false true p q = rw (q, p, r)

@@ -1,7 +1,7 @@
 -- What the code's types mean, and lists from a number on. Assumes nothing.
 use Rattle.std.specs.Prelude.{Bool, ◌&&◌, List, [], ◌∷◌, ℕ, ◌+◌, eqb}
 use Rattle.rules.specs.Bytes.{Bytes, byte, field, signed}
-use Rattle.rules.specs.Lists.{if◌then◌else◌, range, keep}
+use Rattle.rules.specs.Lists.{when◌then◌else◌, range, keep}
 use Rattle.rules.specs.Chart.{State, Segment, Chart, Block, Op, push, load, store, add, subtract, multiply, quotient, remainder, less, equal, not, raise, send, unknown, op_of, Instruction, parent}
 use Rattle.rules.specs.declared.headers.Header.{Header}
 use Rattle.chart.specs.declared.blocks.Block.{Block as CodeBlock}
@@ -48,14 +48,14 @@ instruction_from b i =
 -- an end of a segment, by its kind and number
 abbrev pub source_named : ℕ → ℕ → Source
 source_named k n =
-    if eqb k 0 then source.Outer (record { 0 = n })
-    else if eqb k 1 then source.Inner (record { 0 = n })
-    else if eqb k 2 then source.Junction (record { 0 = n }) else source.Unknown
+    when eqb k 0 then source.Outer (record { 0 = n })
+    else when eqb k 1 then source.Inner (record { 0 = n })
+    else when eqb k 2 then source.Junction (record { 0 = n }) else source.Unknown
 
 abbrev pub destination_named : ℕ → ℕ → Destination
 destination_named k n =
-    if eqb k 0 then destination.State (record { 0 = n })
-    else if eqb k 1 then destination.Junction (record { 0 = n }) else destination.Unknown
+    when eqb k 0 then destination.State (record { 0 = n })
+    else when eqb k 1 then destination.Junction (record { 0 = n }) else destination.Unknown
 
 module _ (c : Chart) (h : Header) where
   -- the children of p from a number on

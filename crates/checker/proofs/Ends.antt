@@ -7,7 +7,7 @@ use native.Mathlib.Omega.{arith}
 use lib.Dec.{eqb, ltb}
 use borrow.Author.Tests.{eqb-true, eqb-false, le-ltb}
 use Rattle.rules.specs.Bytes.{byte}
-use Rattle.rules.specs.Lists.{if◌then◌else◌}
+use Rattle.rules.specs.Lists.{when◌then◌else◌}
 use Rattle.rules.specs.Chart.{Chart, Segment, source_kind, source, destination_kind, destination}
 use Rattle.rules.specs.Accept.{end_right}
 use Rattle.rules.specs.declared.headers.Header.{Header}
@@ -36,7 +36,7 @@ destination_test h a_destination.Unknown = false
 module _ (c : Chart) where
   source-cases : (k n : ℕ) (t u v : Bool) → eqb k 0 ≡ t → eqb k 1 ≡ u → eqb k 2 ≡ v
       → source_test (header_of c) (source_named k n) ≡ end_right c 2 k n
-  unfolding end_right if◌then◌else◌
+  unfolding end_right when◌then◌else◌
   source-cases k n true u v p q r = rw (eqb-true k 0 p)
   source-cases k n false true v p q r = rw (eqb-true k 1 q)
   source-cases k n false false true p q r = rw (eqb-true k 2 r)
@@ -47,7 +47,7 @@ module _ (c : Chart) where
 
   destination-cases : (k n : ℕ) (t u : Bool) → eqb k 0 ≡ t → eqb k 1 ≡ u
       → destination_test (header_of c) (destination_named k n) ≡ end_right c 1 k n
-  unfolding end_right if◌then◌else◌
+  unfolding end_right when◌then◌else◌
   destination-cases k n true u p q = rw (eqb-true k 0 p)
   destination-cases k n false true p q = rw (eqb-true k 1 q)
   destination-cases k n false false p q =

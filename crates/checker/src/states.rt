@@ -1,7 +1,7 @@
 // The rules of states, blocks and segments apart, and of junctions.
 ghost use Rattle.std.specs.Prelude.{◌≡◌, eqb, leb, ltb, length};
 ghost use Rattle.std.proofs.Math.Bool as B;
-ghost use Rattle.rules.specs.Lists.{if◌then◌else◌};
+ghost use Rattle.rules.specs.Lists.{when◌then◌else◌};
 ghost use Rattle.rules.specs.Chart.{states, children, is_one_of, history, junction_parent};
 ghost use Rattle.rules.specs.Accept as rules;
 ghost use Rattle.chart.specs.Places.{header_of};
@@ -53,7 +53,7 @@ fn initial_right(chart: &[u8], h: Header, s: StateNo) -> bool
 
 // Only a one-of state keeps history.
 fn most_history(chart: &[u8], s: StateNo) -> u8
-    ensures { result ≡ (if is_one_of chart.now s.0 then 1 else 0) }
+    ensures { result ≡ (when is_one_of chart.now s.0 then 1 else 0) }
 {
     if states::kind(chart, s) == states::ONE_OF {
         1
@@ -63,7 +63,7 @@ fn most_history(chart: &[u8], s: StateNo) -> u8
 }
 
 fn history_right(chart: &[u8], s: StateNo) -> bool
-    ensures { result ≡ leb (history chart.now s.0) (if is_one_of chart.now s.0 then 1 else 0) }
+    ensures { result ≡ leb (history chart.now s.0) (when is_one_of chart.now s.0 then 1 else 0) }
 {
     states::history(chart, s) <= most_history(chart, s)
 }

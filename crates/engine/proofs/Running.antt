@@ -9,7 +9,7 @@ use native.Mathlib.Numerals.{add-one}
 use lib.Dec.{eqb, ltb, leb}
 use lib.ListN.{length}
 use borrow.Author.Tests.{eqb-true, eqb-false, ne_eqb, ltb-true, ltb-false}
-use Rattle.rules.specs.Lists.{if◌then◌else◌, range, keep, first}
+use Rattle.rules.specs.Lists.{when◌then◌else◌, range, keep, first}
 use Rattle.rules.specs.Chart.{State, Segment, Chart, deepest, states, parent, is_one_of, children, during, outer, inner, code}
 use Rattle.rules.specs.Image.{Image, is_active}
 use Rattle.rules.specs.Doing.{Refusal, Now, Outcome, refused, went, Done, give, done, after, ◌>>=◌, ◌>>◌, look, pay, during_point, note, each, when_active}
@@ -38,11 +38,11 @@ use Rattle.engine.proofs.Units.{run_alone-falls, no-keeps, yes-keeps}
 module _ (c : Chart) (sends e : ℕ) (f : State → Done) (p : State) where
   -- what follows once p is run by itself
   abbrev inside : Bool → Done
-  inside b = if b then done else run_children c f p
+  inside b = when b then done else run_children c f p
 
   -- a path that is fired ends it, and what follows is done where the run is not over
-  followed_then : (o : Found) (rest : Done) (n : Now) → follow c p o rest n ≡ after (ending c sends e p o n) (λ b. if b then done else rest)
-  unfolding follow ending if◌then◌else◌ ◌>>◌ give
+  followed_then : (o : Found) (rest : Done) (n : Now) → follow c p o rest n ≡ after (ending c sends e p o n) (λ b. when b then done else rest)
+  unfolding follow ending when◌then◌else◌ ◌>>◌ give
   followed_then (reached s path) rest n = sym (after-after (fire c p s path n) _ _ ∙ after-done (fire c p s path n))
   followed_then nowhere rest n = refl
   followed_then ended rest n = refl
@@ -50,7 +50,7 @@ module _ (c : Chart) (sends e : ℕ) (f : State → Done) (p : State) where
 
   -- an edge's segments are followed
   edge-then : (ts : List Segment) (rest : Done) (n : Now)
-      → after (search c (send c sends) e p ts n) (λ o. follow c p o rest) ≡ after (followed c sends e p ts n) (λ b. if b then done else rest)
+      → after (search c (send c sends) e p ts n) (λ o. follow c p o rest) ≡ after (followed c sends e p ts n) (λ b. when b then done else rest)
   unfolding followed ◌>>=◌
   edge-then ts rest n =
       after_same (search c (send c sends) e p ts n) (λ o n'. followed_then o rest n')
@@ -58,14 +58,14 @@ module _ (c : Chart) (sends e : ℕ) (f : State → Done) (p : State) where
 
   unless-then : (r : Ran) (n : Now)
       → unless_abandoned r tt (λ _. run_inside c (send c sends) e f p) n
-      ≡ after (after (give (is_abandoned r) n) (λ b. if b then give true else followed c sends e p (inner c p))) inside
-  unfolding unless_abandoned is_abandoned run_inside give done if◌then◌else◌ ◌>>=◌
+      ≡ after (after (give (is_abandoned r) n) (λ b. when b then give true else followed c sends e p (inner c p))) inside
+  unfolding unless_abandoned is_abandoned run_inside give done when◌then◌else◌ ◌>>=◌
   unless-then (ran st) n = edge-then (inner c p) (run_children c f p) n
   unless-then abandoned n = refl
 
   acted-then : (n : Now)
       → after (perform (send_from p (send c sends)) [] (code c (during c p)) n) (λ r. unless_abandoned r tt (λ _. run_inside c (send c sends) e f p))
-      ≡ after (after (acted c sends p (during c p) n) (λ b. if b then give true else followed c sends e p (inner c p))) inside
+      ≡ after (after (acted c sends p (during c p) n) (λ b. when b then give true else followed c sends e p (inner c p))) inside
   unfolding acted ◌>>=◌
   acted-then n =
       let o = perform (send_from p (send c sends)) [] (code c (during c p)) n in
@@ -77,14 +77,14 @@ module _ (c : Chart) (sends e : ℕ) (f : State → Done) (p : State) where
       after_same (note during_point p n) (λ _ n'. acted-then n') ∙ sym (after-after (note during_point p n) _ _)
 
   rest_then : (b : Bool) (n : Now)
-      → (if b then done else run_during c (send c sends) e f p) n ≡ after ((if b then give true else inside_alone c sends e p) n) inside
-  unfolding if◌then◌else◌ give done
+      → (when b then done else run_during c (send c sends) e f p) n ≡ after ((when b then give true else inside_alone c sends e p) n) inside
+  unfolding when◌then◌else◌ give done
   rest_then true n = refl
   rest_then false n = during-then n
 
   outer-then : (n : Now)
       → after (search c (send c sends) e p (outer c p) n) (λ o. follow c p o (run_during c (send c sends) e f p))
-      ≡ after (after (followed c sends e p (outer c p) n) (λ b. if b then give true else inside_alone c sends e p)) inside
+      ≡ after (after (followed c sends e p (outer c p) n) (λ b. when b then give true else inside_alone c sends e p)) inside
   outer-then n =
       let o = followed c sends e p (outer c p) n in
       edge-then (outer c p) _ n ∙ after_same o rest_then ∙ sym (after-after o _ _)
@@ -92,7 +92,7 @@ module _ (c : Chart) (sends e : ℕ) (f : State → Done) (p : State) where
 -- a run is a run by itself, then of the children
 pub run-alone : (c : Chart) (sends e d : ℕ) (p : State) (n : Now)
     → run c (send c sends) e (suc d) p n
-    ≡ after (run_alone c sends e p n) (λ b. if b then done else run_children c (run c (send c sends) e d) p)
+    ≡ after (run_alone c sends e p n) (λ b. when b then done else run_children c (run c (send c sends) e d) p)
 unfolding run run_alone ◌>>=◌ ◌>>◌
 run-alone c sends e d p n =
     after_same (pay n) (λ _ n'. outer-then c sends e (run c (send c sends) e d) p n') ∙ sym (after-after (pay n) _ _)
@@ -110,18 +110,18 @@ module _ (c : Chart) (f : State → Done) (p : State) where
 
   module _ (a e : ℕ) (n : Now) (more : a < e) where
     by-test : (t u : Bool) → eqb (parent c a) p ≡ t → is_active n.image a ≡ u
-        → each_in a e n ≡ if t && u then (f a >> each_in (a + 1) e) n else each_in (a + 1) e n
-    unfolding each when_active done give ◌>>◌ if◌then◌else◌
+        → each_in a e n ≡ when t && u then (f a >> each_in (a + 1) e) n else each_in (a + 1) e n
+    unfolding each when_active done give ◌>>◌ when◌then◌else◌
     by-test false u q v = rw (keep-skip (λ s. eqb (parent c s) p) a e more q)
     by-test true false q v = rw (keep-pass (λ s. eqb (parent c s) p) a e more q, v)
     by-test true true q v = rw (keep-pass (λ s. eqb (parent c s) p) a e more q, v)
 
     each-skip : is_turn n a ≡ false → each_in a e n ≡ each_in (a + 1) e n
-    unfolding if◌then◌else◌
+    unfolding when◌then◌else◌
     each-skip q = rw (by-test (eqb (parent c a) p) (is_active n.image a) refl refl, q)
 
     each_take : is_turn n a ≡ true → each_in a e n ≡ (f a >> each_in (a + 1) e) n
-    unfolding if◌then◌else◌
+    unfolding when◌then◌else◌
     each_take q = rw (by-test (eqb (parent c a) p) (is_active n.image a) refl refl, q)
 
     -- nobody is active: the root is nobody's child
@@ -164,8 +164,8 @@ module _ (c : Chart) (f : State → Done) (p : State) where
   one-active (suc m) a e n q is some =
       taken_step a e n (omega arith) (is_turn n a) refl is (λ r. one-active m (a + 1) e n (omega arith) r some)
 
-either_way : {A : Type 0} (t : Bool) (x : A) → (if t then x else x) ≡ x
-unfolding if◌then◌else◌
+either_way : {A : Type 0} (t : Bool) (x : A) → (when t then x else x) ≡ x
+unfolding when◌then◌else◌
 either_way true x = refl
 either_way false x = refl
 
@@ -175,12 +175,12 @@ module _ (c : Chart) (sends e : ℕ) where
 
   -- s is run, unless it is 0
   abbrev if_some : ℕ → State → Done
-  if_some d s = if eqb s 0 then done else running d s
+  if_some d s = when eqb s 0 then done else running d s
 
   -- the children of p from a number on that still have their turn
   unfoldable pub pending : ℕ → State → ℕ → Done
   pending d p from =
-      if is_one_of c p then (look >>= (λ im. if_some d (first (is_active im) (children_from c (header_of c) from p))))
+      when is_one_of c p then (look >>= (λ im. if_some d (first (is_active im) (children_from c (header_of c) from p))))
       else each (λ s. when_active s (running d s)) (children_from c (header_of c) from p)
 
   -- what is left to run once p and those below it are done, p being so many levels below the state that the run began at
@@ -194,18 +194,18 @@ module _ (c : Chart) (sends e : ℕ) where
 
   -- a choice by the kind of p
   one_of : (d : ℕ) (p : State) (from : ℕ) (n : Now) → is_one_of c p ≡ true → pending d p from n ≡ if_some d (first_in c n.image p from (states c)) n
-  unfolding pending children_from look ◌>>=◌ if◌then◌else◌
+  unfolding pending children_from look ◌>>=◌ when◌then◌else◌
   one_of d p from n q = rw q
 
   all_of : (d : ℕ) (p : State) (from : ℕ) (n : Now) → is_one_of c p ≡ false → pending d p from n ≡ each_in c (running d) p from (states c) n
-  unfolding pending children_from if◌then◌else◌
+  unfolding pending children_from when◌then◌else◌
   all_of d p from n q = rw q
 
   -- none is pending
   module _ (d : ℕ) (p : State) (from : ℕ) (n : Now) where
     nobody-pending : (t : Bool) → is_one_of c p ≡ t → (from ≡ 0 → states c ≡ 0) → first_in c n.image p from (states c) ≡ 0
         → pending d p from n ≡ went tt n
-    unfolding if◌then◌else◌ done give
+    unfolding when◌then◌else◌ done give
     nobody-pending true q root none = one_of d p from n q ∙ rw none
     nobody-pending false q root none = all_of d p from n q ∙ none-active c (running d) p (states c - from) from (states c) n refl root none
 
@@ -234,7 +234,7 @@ module _ (c : Chart) (sends e : ℕ) where
     taken = one-active c (running d) p (states c - from) from (states c) n refl is some
 
     child-goes : (t : Bool) → is_one_of c p ≡ t → Goes d p from n s
-    unfolding ◌>>◌ if◌then◌else◌ done give
+    unfolding ◌>>◌ when◌then◌else◌ done give
     child-goes true q =
         record {
           child = taken.child;
@@ -279,7 +279,7 @@ module _ (c : Chart) (sends e : ℕ) where
 
   -- the number that follows is 0 only where there are no states
   next-root : (p s : State) (t u : Bool) → is_one_of c p ≡ t → leb (states c) s ≡ u → next_from c (header_of c) p s ≡ 0 → states c ≡ 0
-  unfolding next_from if◌then◌else◌
+  unfolding next_from when◌then◌else◌
   next-root p s true u q v z = rw q at z
   next-root p s false true q v z = rw (q, v) at z
   next-root p s false false q v z = let w : s + 1 ≡ 0 = rw (q, v) at z in absurd (omega arith)
@@ -330,7 +330,7 @@ module _ (c : Chart) (sends e : ℕ) where
   -- p is run by itself: over, or its children are pending
   module _ (d : ℕ) (p : State) (n : Now) (deep : d ≤ deepest) where
     alone-first : (running (levels - d) p >> climb d p) n
-        ≡ after (after (run_alone c sends e p n) (λ b. if b then done else run_children c (running (deepest - d)) p)) (λ _. climb d p)
+        ≡ after (after (run_alone c sends e p n) (λ b. when b then done else run_children c (running (deepest - d)) p)) (λ _. climb d p)
     unfolding ◌>>◌
     alone-first =
         let z : levels - d ≡ suc (deepest - d) = omega arith in
@@ -341,7 +341,7 @@ module _ (c : Chart) (sends e : ℕ) where
 
     alone-over : {n' : Now} → run_alone c sends e p n ≡ went true n'
         → (running (levels - d) p >> climb d p) n ≡ turned (next_turn c (header_of c) n'.image d p (states c)) n'
-    unfolding ◌>>◌ if◌then◌else◌ done give
+    unfolding ◌>>◌ when◌then◌else◌ done give
     alone-over {n'} q =
         alone-first ∙ rw q
         (sym (ap (λ (o : Outcome (Unit {0})). after o (λ _. climb d p)) (past-pending (deepest - d) p (states c) n' (omega arith)))
@@ -349,7 +349,7 @@ module _ (c : Chart) (sends e : ℕ) where
 
     alone-goes-on : {n' : Now} → run_alone c sends e p n ≡ went false n'
         → (running (levels - d) p >> climb d p) n ≡ turned (next_turn c (header_of c) n'.image d p 1) n'
-    unfolding ◌>>◌ if◌then◌else◌
+    unfolding ◌>>◌ when◌then◌else◌
     alone-goes-on {n'} q =
         alone-first ∙ rw q
         (sym (ap (λ (o : Outcome (Unit {0})). after o (λ _. climb d p)) (all-pending (deepest - d) p n'))

@@ -10,7 +10,7 @@ use lib.Dec.{eqb}
 use lib.ListN.{length, take, get_or, set, length-set}
 use lib.Seq.{take-set-le, get_or-set_same, get_or-set_other, take-suc-set}
 use borrow.Author.Tests.{ne_eqb}
-use Rattle.rules.specs.Lists.{if◌then◌else◌}
+use Rattle.rules.specs.Lists.{when◌then◌else◌}
 use Rattle.rules.specs.Bytes.{byte}
 use Rattle.rules.specs.Chart.{State, Segment, Chart, condition_action, destination, ends_on_state, from_junction, code}
 use Rattle.rules.specs.Image.{Image}
@@ -74,8 +74,8 @@ module _ (c : Chart) (n e : ℕ) (s : State) where
   -- where a segment that passed leads: on a state, to a dead end, or to a junction's list, which is tried first
   leads : ℕ → List Segment → Segment → List Level → Bool → Bool → Doing Found
   leads m path t ls b b' =
-      if b then give (reached (destination c t) (path ++ (t ∷ [])))
-      else if b' then give ended
+      when b then give (reached (destination c t) (path ++ (t ∷ [])))
+      else when b' then give ended
       else rest (record { more = m; path = path ++ (t ∷ []); list = from_junction c (destination c t) } ∷ ls)
 
   -- how it goes on by what trying a segment came to
@@ -103,11 +103,11 @@ module _ (c : Chart) (n e : ℕ) (s : State) where
     -- the condition action was performed
     acted-ways : (m : ℕ) (r : Ran) (b b' : Bool) (now : Now)
         → after (unless_abandoned r run_abandoned (λ _.
-        if b then give (reached (destination c t) (path ++ (t ∷ [])))
-        else if b' then give ended
+        when b then give (reached (destination c t) (path ++ (t ∷ [])))
+        else when b' then give ended
         else trying m (path ++ (t ∷ [])) (from_junction c (destination c t))) now) (or_below (suc m))
-        ≡ (if is_abandoned r then give run_abandoned else leads m path t (below (suc m)) b b') now
-    unfolding unless_abandoned is_abandoned if◌then◌else◌ give or_next leads rest ◌>>=◌
+        ≡ (when is_abandoned r then give run_abandoned else leads m path t (below (suc m)) b b') now
+    unfolding unless_abandoned is_abandoned when◌then◌else◌ give or_next leads rest ◌>>=◌
     acted-ways m (ran st) true b' now = refl
     acted-ways m (ran st) false true now = refl
     acted-ways m (ran st) false false now =
@@ -115,17 +115,17 @@ module _ (c : Chart) (n e : ℕ) (s : State) where
     acted-ways m abandoned b b' now = refl
 
     acted-on : (m : ℕ) (r : Ran) (now : Now)
-        → (if is_abandoned r then give run_abandoned else leads m path t (below (suc m)) (ends_on_state c t) (eqb (length (from_junction c (destination c t))) 0)) now
-        ≡ onward (suc m) path t (below (suc m)) (if is_abandoned r then owner_gone else told.passed) now
-    unfolding is_abandoned if◌then◌else◌ onward
+        → (when is_abandoned r then give run_abandoned else leads m path t (below (suc m)) (ends_on_state c t) (eqb (length (from_junction c (destination c t))) 0)) now
+        ≡ onward (suc m) path t (below (suc m)) (when is_abandoned r then owner_gone else told.passed) now
+    unfolding is_abandoned when◌then◌else◌ onward
     acted-on m (ran st) now = rw (less_one m)
     acted-on m abandoned now = refl
 
     -- it was tested
     tested-ways : (m : ℕ) (b : Bool) (now : Now)
-        → after ((if b then passed c (send c n) e s m path t else give nowhere) now) (or_below m)
-        ≡ after ((if b then passing_within c n m s t else give failed) now) (onward m path t (below m))
-    unfolding passed passing_within passing acted if◌then◌else◌ give refuse or_next onward rest ◌>>=◌ ◌>>◌
+        → after ((when b then passed c (send c n) e s m path t else give nowhere) now) (or_below m)
+        ≡ after ((when b then passing_within c n m s t else give failed) now) (onward m path t (below m))
+    unfolding passed passing_within passing acted when◌then◌else◌ give refuse or_next onward rest ◌>>=◌ ◌>>◌
     tested-ways m false now = refl
     tested-ways zero true now = refl
     tested-ways (suc m) true now =
@@ -218,8 +218,8 @@ module _ (c : Chart) (n e : ℕ) (s : State) where
 
   -- with no more to pass none passes
   none_passes : (t : Segment) (o : Outcome Bool) (now : Now)
-      → after o (λ b. if b then passing_within c n zero s t else give failed) ≡ went told.passed now → ⊥
-  unfolding passing_within if◌then◌else◌ refuse give
+      → after o (λ b. when b then passing_within c n zero s t else give failed) ≡ went told.passed now → ⊥
+  unfolding passing_within when◌then◌else◌ refuse give
   none_passes t (refused r) now h = let z : ◌≡◌ {A = ℕ} 0 1 = cc in omega arith
   none_passes t (went true now') now h = let z : ◌≡◌ {A = ℕ} 0 1 = cc in omega arith
   none_passes t (went false now') now h = let z : ◌≡◌ {A = ℕ} 0 1 = cc in omega arith
@@ -314,7 +314,7 @@ module _ (c : Chart) (n e : ℕ) (s : State) where
         -- to a state
         pub passed-reached : length p₀.path ≡ 128 → ends_on_state c t.0 ≡ true → {target : State} → target ≡ destination c t.0
             → went (reached target (take (p.length + 1) (set p.path p.length t.0))) (now_of im tr k) ≡ to_do p₀
-        unfolding onward leads if◌then◌else◌ give
+        unfolding onward leads when◌then◌else◌ give
         passed-reached l b h =
             sym (turned ∙ rw (w, b, h, add-one p.length, take-suc-set p.path p.length t.0 (passed-within l)))
 
@@ -322,13 +322,13 @@ module _ (c : Chart) (n e : ℕ) (s : State) where
         module _ (b : ends_on_state c t.0 ≡ false) {next : Next}
             (h : list_of c next ≡ from_junction c (destination c t.0)) where
           pub passed-ended : next ≡ next-is.End → went ended (now_of im tr k) ≡ to_do p₀
-          unfolding onward leads if◌then◌else◌ give list_of
+          unfolding onward leads when◌then◌else◌ give list_of
           passed-ended z = sym (turned ∙ rw (w, b, sym h, z))
 
           pub passed-onward : {t' : SegmentNo} → next ≡ next-is.Segment t' → length p₀.path ≡ 128
               → length im ≡ length p.image → length tr ≡ length p.trace
               → Still p₀ (record { path = set p.path p.length t.0; length = p.length + 1; next = next; image = im; trace = tr; left = k })
-          unfolding onward leads if◌then◌else◌ to_do
+          unfolding onward leads when◌then◌else◌ to_do
           passed-onward z l li lt =
               let u = passed-less in
               let v = passed-short in

@@ -11,7 +11,7 @@ use lib.ListN.{length, take, drop}
 use lib.IntN.{ℤ, pos}
 use borrow.Author.Tests.{eq-eqb, ne_eqb}
 use Rattle.rules.specs.Bytes.{Bytes, byte, is_zero}
-use Rattle.rules.specs.Lists.{if◌then◌else◌}
+use Rattle.rules.specs.Lists.{when◌then◌else◌}
 use Rattle.rules.specs.Chart.{Chart, State, Op, Block, Instruction, block_at, code}
 use Rattle.rules.specs.Chart as op
 use Rattle.rules.specs.Image.{Image, is_active}
@@ -54,7 +54,7 @@ module _ (c : Chart) (h : Header) (k : CodeBlock) (part : Bytes) (own : h ≡ he
 -- a condition: empty, refused, or by its value, the top of the stack that it leaves
 module _ (c : Chart) (n : Now) where
   unfoldable conditioned : Block → Doing Bool
-  conditioned k = if is_none k then give true else (value c k >>= (λ z. give (B.not (is_zero z))))
+  conditioned k = when is_none k then give true else (value c k >>= (λ z. give (B.not (is_zero z))))
 
   module _ (h : Header) (own : h ≡ header_of c) (t : ℕ) (k : CodeBlock) (is : block_of k ≡ block_at c (segment_place h t + 9)) where
     holds-is : conditioned (block_of k) n ≡ holds c t n
@@ -62,7 +62,7 @@ module _ (c : Chart) (n : Now) where
     holds-is = rw (is, own)
 
     pub holds-empty : k.count ≡ 0 → went true n ≡ holds c t n
-    unfolding conditioned is_none if◌then◌else◌ give
+    unfolding conditioned is_none when◌then◌else◌ give
     holds-empty e = rw (eq-eqb k.count 0 e) at holds-is
 
     module _ (some : k.count ≡ 0 → ⊥) (part : Bytes) (cut : part ≡ take (6 * k.count) (drop (instruction_place h k.start) c))
@@ -70,7 +70,7 @@ module _ (c : Chart) (n : Now) where
         (told : ran_of v cells im tr ≡ perform no_send [] (code_in part 0 k.count) n) where
       holds-run : after (after (ran_of v cells im tr) (λ r. unless_abandoned r (pos 0) (λ st. give (top st)))) (λ z. give (B.not (is_zero z)))
           ≡ holds c t n
-      unfolding conditioned value is_none if◌then◌else◌ ◌>>=◌
+      unfolding conditioned value is_none when◌then◌else◌ ◌>>=◌
       holds-run = rw (told, part-has c h k part own cut) (rw (ne_eqb k.count 0 some) at holds-is)
 
       pub holds-refused : {r : CodeRefusal} → v ≡ performed.Refused r → refused (refusal_of r) ≡ holds c t n
@@ -85,27 +85,27 @@ module _ (c : Chart) (n : Now) where
 module _ (c : Chart) (h : Header) (own : h ≡ header_of c) (e t : ℕ) (n : Now)
     {wanted : ℕ} (is : wanted ≡ byte c (segment_place h t + 6)) where
   pub passes_on : {all : Outcome Bool} → (eqb wanted 0 || eqb wanted e) ≡ true → all ≡ holds c t n → all ≡ passes c e t n
-  unfolding passes if◌then◌else◌
+  unfolding passes when◌then◌else◌
   passes_on q all = rw (rw (is, own) at q) all
 
   pub passes-off : (eqb wanted 0 || eqb wanted e) ≡ false → went false n ≡ passes c e t n
-  unfolding passes if◌then◌else◌ give
+  unfolding passes when◌then◌else◌ give
   passes-off q = rw (rw (is, own) at q)
 
 -- a send: to a state that is not active, with no send left to open, and with one
 module _ (c : Chart) (e b : ℕ) (im : Image) (tr : List ℕ) (k : Counts) where
   pub send-idle : (n : ℕ) → is_active im b ≡ false → went tt (now_of im tr k) ≡ send c n e b (now_of im tr k)
-  unfolding send when_active if◌then◌else◌ done give
+  unfolding send when_active when◌then◌else◌ done give
   send-idle zero q = rw q
   send-idle (suc n) q = rw q
 
   pub send-barred : (n : ℕ) → is_active im b ≡ true → n ≡ 0 → refused (because 18) ≡ send c n e b (now_of im tr k)
-  unfolding send when_active if◌then◌else◌ refuse
+  unfolding send when_active when◌then◌else◌ refuse
   send-barred n q z = rw (z, q)
 
   pub send-runs : (n : ℕ) → is_active im b ≡ true → (n ≡ 0 → ⊥)
       → run c (send c (n - 1)) e levels b (now_of im tr k) ≡ send c n e b (now_of im tr k)
-  unfolding send when_active if◌then◌else◌
+  unfolding send when_active when◌then◌else◌
   send-runs zero q h = absurd (h refl)
   send-runs (suc n) q h = rw (q, less_one n)
 
@@ -167,10 +167,10 @@ answer r = give (is_abandoned r)
 
 module _ (st : Stack) (f : Stack → Doing Ran) where
   abbrev send_ends : Bool → Doing Ran
-  send_ends b = give (if b then abandoned else ran st)
+  send_ends b = give (when b then abandoned else ran st)
 
   after-told : (o : Outcome Bool) → after (after (after o send_ends) (onward f)) answer ≡ after o (unless_over (f st >>= answer))
-  unfolding give if◌then◌else◌ unless_abandoned is_abandoned ◌>>=◌
+  unfolding give when◌then◌else◌ unless_abandoned is_abandoned ◌>>=◌
   after-told (refused r) = refl
   after-told (went true n) = refl
   after-told (went false n) = refl
@@ -315,7 +315,7 @@ module _ (c : Chart) (sends owner t : ℕ) (n : Now) where
   full-path m z = rw z
 
   within-path : (m : ℕ) → (m ≡ 0 → ⊥)
-      → after (passing c sends owner t n) (λ b. give (if b then owner_gone else passed)) ≡ passing_within c sends m owner t n
+      → after (passing c sends owner t n) (λ b. give (when b then owner_gone else passed)) ≡ passing_within c sends m owner t n
   unfolding passing_within ◌>>=◌
   within-path zero h = absurd (h refl)
   within-path (suc m) h = refl
@@ -323,7 +323,7 @@ module _ (c : Chart) (sends owner t : ℕ) (n : Now) where
   module _ (m : ℕ) (some : m ≡ 0 → ⊥) {v : Verdict} (im : Image) (tr : List ℕ)
       (told : verdict_of v im tr ≡ passing c sends owner t n) where
     pub pass-came : {x : Verdict} → v ≡ x
-        → after (verdict_of x im tr) (λ b. give (if b then owner_gone else passed)) ≡ passing_within c sends m owner t n
+        → after (verdict_of x im tr) (λ b. give (when b then owner_gone else passed)) ≡ passing_within c sends m owner t n
     pass-came w = rw (sym told, w) at (within-path m some)
 
 -- a segment is tried: it fails, or it passes and goes on

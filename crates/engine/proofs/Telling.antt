@@ -4,7 +4,7 @@ use mathlib.Core.Path.{◌≡◌, refl, sym}
 use mathlib.Core.Bool.{Bool, true}
 use mathlib.Core.List.{List}
 use Prim.Native.Nat.{ℕ, ◌<◌}
-use Rattle.rules.specs.Lists.{if◌then◌else◌}
+use Rattle.rules.specs.Lists.{when◌then◌else◌}
 use Rattle.rules.specs.Image.{Image}
 use Rattle.rules.specs.Doing.{Now, Outcome, Doing, after, give, pay}
 use Rattle.rules.proofs.Spending.{pay-strict}
@@ -33,16 +33,16 @@ paid-less n im tr told w = pay-strict n tt _ (went_on im tr _ told w)
 
 -- a test whose yes ends all: refused or yes, its answer is that of all; no, and what follows goes on
 abbrev pub unless_over : Doing Bool → Bool → Doing Bool
-unless_over m b = if b then give true else m
+unless_over m b = when b then give true else m
 
 module _ (v : Verdict) (im : Image) (tr : List ℕ) (m : Doing Bool) {o : Outcome Bool} (says : verdict_of v im tr ≡ o) where
   pub no-then : {k : Counts} → v ≡ verdict.No k → {all : Outcome Bool} → all ≡ m (now_of im tr k) → all ≡ after o (unless_over m)
-  unfolding if◌then◌else◌
+  unfolding when◌then◌else◌
   no-then w next = rw (sym says, w) next
 
 pub over-ends : (v : Verdict) (im : Image) (tr : List ℕ) (m : Doing Bool) {o : Outcome Bool} → verdict_of v im tr ≡ o
     → ((k : Counts) → v ≡ verdict.No k → ⊥) → verdict_of v im tr ≡ after o (unless_over m)
-unfolding give if◌then◌else◌
+unfolding give when◌then◌else◌
 over-ends (verdict.Refused r) im tr m says w = rw (sym says)
 over-ends (verdict.Yes k) im tr m says w = rw (sym says)
 over-ends (verdict.No k) im tr m says w = absurd (w k refl)
@@ -50,14 +50,14 @@ over-ends (verdict.No k) im tr m says w = absurd (w k refl)
 -- a test whose no ends all: refused or no, what is given at a no is told; yes, and what follows goes on
 module _ {A : Type 0} (a : A) where
   pub yes-then : {v : Verdict} (im : Image) (tr : List ℕ) (m : Doing A) {o : Outcome Bool} → verdict_of v im tr ≡ o
-      → {k : Counts} → v ≡ verdict.Yes k → {all : Outcome A} → all ≡ m (now_of im tr k) → all ≡ after o (λ b. if b then m else give a)
-  unfolding if◌then◌else◌
+      → {k : Counts} → v ≡ verdict.Yes k → {all : Outcome A} → all ≡ m (now_of im tr k) → all ≡ after o (λ b. when b then m else give a)
+  unfolding when◌then◌else◌
   yes-then im tr m says w next = rw (sym says, w) next
 
   pub failed_ends : (v : Verdict) (im : Image) (tr : List ℕ) (m : Doing A) {o : Outcome Bool} → verdict_of v im tr ≡ o
       → ((k : Counts) → v ≡ verdict.Yes k → ⊥)
-      → after (verdict_of v im tr) (λ _. give a) ≡ after o (λ b. if b then m else give a)
-  unfolding if◌then◌else◌
+      → after (verdict_of v im tr) (λ _. give a) ≡ after o (λ b. when b then m else give a)
+  unfolding when◌then◌else◌
   failed_ends (verdict.Refused r) im tr m says w = rw (sym says)
   failed_ends (verdict.Yes k) im tr m says w = absurd (w k refl)
   failed_ends (verdict.No k) im tr m says w = rw (sym says)

@@ -1,6 +1,6 @@
 -- What the engine's functions answer, as the rules have it, and the steps between the rules' definitions. Assumes nothing.
 use Rattle.std.specs.Prelude.{Bool, true, false, List, [], ◌∷◌, ℕ, zero, suc, ◌+◌, take}
-use Rattle.rules.specs.Lists.{if◌then◌else◌}
+use Rattle.rules.specs.Lists.{when◌then◌else◌}
 use Rattle.rules.specs.Chart.{State, Segment, Chart, Block, Instruction, during, source_kind, source, condition_action, outer, inner, code}
 use Rattle.rules.specs.Image.{Image}
 use Rattle.rules.specs.Doing.{Outcome, refused, went, Doing, give, refuse, ◌>>=◌, ◌>>◌, pay, segment_passed, during_point, note}
@@ -79,11 +79,11 @@ module _ (c : Chart) where
     -- with so many segments more on the path at most
     unfoldable pub passing_within : ℕ → State → Segment → Doing Try
     passing_within zero owner t = refuse 19
-    passing_within (suc m) owner t = passing owner t >>= (λ b. give (if b then owner_gone else passed))
+    passing_within (suc m) owner t = passing owner t >>= (λ b. give (when b then owner_gone else passed))
 
     module _ (e : ℕ) where
       unfoldable pub tried : State → ℕ → Segment → Doing Try
-      tried owner m t = tested e t >>= (λ b. if b then passing_within m owner t else give failed)
+      tried owner m t = tested e t >>= (λ b. when b then passing_within m owner t else give failed)
 
       -- after a search a path to a state is fired: whether the run of p is over
       unfoldable pub ending : State → Found → Doing Bool
@@ -98,8 +98,8 @@ module _ (c : Chart) where
       -- no outer segment reached a state: the during action, then the inner segments
       unfoldable pub inside_alone : State → Doing Bool
       inside_alone p =
-          note during_point p >> (acted p (during c p) >>= (λ b. if b then give true else followed p (inner c p)))
+          note during_point p >> (acted p (during c p) >>= (λ b. when b then give true else followed p (inner c p)))
 
       -- p is run by itself, without its children
       unfoldable pub run_alone : State → Doing Bool
-      run_alone p = pay >> (followed p (outer c p) >>= (λ b. if b then give true else inside_alone p))
+      run_alone p = pay >> (followed p (outer c p) >>= (λ b. when b then give true else inside_alone p))

@@ -1,6 +1,6 @@
 -- Whose turn it is in a run, the states taken one after the other. Assumes nothing.
 use Rattle.std.specs.Prelude.{ℕ, zero, suc, ◌+◌, eqb, ltb, leb}
-use Rattle.rules.specs.Lists.{if◌then◌else◌, first}
+use Rattle.rules.specs.Lists.{when◌then◌else◌, first}
 use Rattle.rules.specs.Chart.{State, Chart, deepest, parent, is_one_of}
 use Rattle.rules.specs.Image.{Image, is_active}
 use Rattle.rules.specs.declared.headers.Header.{Header}
@@ -20,16 +20,16 @@ turn_of turn.Over = nobody
 module _ (c : Chart) (h : Header) where
   -- the number from which on the children of p have their turn after its child s
   unfoldable pub next_from : State → State → ℕ
-  next_from p s = if is_one_of c p then h.states else (if leb h.states s then h.states else s + 1)
+  next_from p s = when is_one_of c p then h.states else (when leb h.states s then h.states else s + 1)
 
   module _ (im : Image) where
     -- the first active child of p from a number on; the deepest states' children have no turn
     unfoldable pub childs_turn : ℕ → State → ℕ → State
-    childs_turn depth p from = if ltb depth deepest then first (is_active im) (children_from c h from p) else 0
+    childs_turn depth p from = when ltb depth deepest then first (is_active im) (children_from c h from p) else 0
 
     -- s, or whoever follows where that is 0
     unfoldable pub turn_or : ℕ → State → Whose → Whose
-    turn_or depth s w = if eqb s 0 then w else at s (depth + 1)
+    turn_or depth s w = when eqb s 0 then w else at s (depth + 1)
 
     -- a child of p from a number on, else one that follows p, else one that follows its parent, and so on
     unfoldable pub next_turn : ℕ → State → ℕ → Whose

@@ -12,16 +12,16 @@ use borrow.Author.Tests.{ltb-true, ltb-false, lt-ltb, le-ltb}
 use mir.Syntax.{Width, w8, w16, w32, w64, w128}
 use mir.Val.{Fits, SFits, bits, hbits, bytes, to_z, of_z}
 use mir.ValLaws.{to_z-of_z, to_z_pos, pow-bits, half_full}
-use Rattle.rules.specs.Lists.{if◌then◌else◌}
+use Rattle.rules.specs.Lists.{when◌then◌else◌}
 use Rattle.rules.specs.Bytes.{signed, unsigned}
 
 -- `signed` in each half of the numbers of w bytes
 pub signed_low : (w n : ℕ) → n < 2 ^ (8 * w - 1) → signed w n ≡ pos n
-unfolding signed if◌then◌else◌
+unfolding signed when◌then◌else◌
 signed_low w n h = rw (lt-ltb n (2 ^ (8 * w - 1)) h)
 
 pub signed_high : (w n : ℕ) → 2 ^ (8 * w - 1) ≤ n → n < 2 ^ (8 * w) → signed w n ≡ negsuc (2 ^ (8 * w) - suc n)
-unfolding signed if◌then◌else◌
+unfolding signed when◌then◌else◌
 signed_high w n h l = rw (le-ltb n (2 ^ (8 * w - 1)) h, lt-ltb n (2 ^ (8 * w)) l)
 
 -- `unsigned` on each side of zero

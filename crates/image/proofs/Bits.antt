@@ -12,7 +12,7 @@ use lib.Seq.{set-get_or}
 use mir.Syntax.{w8}
 use mir.Val.{Fits}
 use borrow.Author.Tests.{eq-eqb, ne_eqb}
-use Rattle.rules.specs.Lists.{if◌then◌else◌}
+use Rattle.rules.specs.Lists.{when◌then◌else◌}
 use Rattle.rules.specs.Bytes.{Bytes, byte, put}
 use Rattle.rules.proofs.Bits.{held}
 use Rattle.rules.specs.Image.{is_active, activate, deactivate}
@@ -53,11 +53,11 @@ module _ (im : Bytes) (s : ℕ) {at b : ℕ} (here : at ≡ 2 + s / 8) (read : b
 
     pub on-stored : b < 256 → {at₂ : ℕ} {after : Bytes} → at₂ ≡ 2 + s / 8 → after ≡ put 1 im at₂ (b + 1 * 2 ^ (s % 8) % 256)
         → after ≡ activate im s
-    unfolding if◌then◌else◌
+    unfolding when◌then◌else◌
     on-stored small p e = rw (own, ne_eqb (b / 2 ^ (s % 8) % 2) 1 off) (stored im s p e (rw (shifted s)) (more small))
 
     pub off-kept : im ≡ deactivate im s
-    unfolding if◌then◌else◌
+    unfolding when◌then◌else◌
     off-kept = rw (own, ne_eqb (b / 2 ^ (s % 8) % 2) 1 off, ← own) (sym (set-get_or im (2 + s / 8) 0))
 
   -- a bit that is on, turned off or left
@@ -67,9 +67,9 @@ module _ (im : Bytes) (s : ℕ) {at b : ℕ} (here : at ≡ 2 + s / 8) (read : b
 
     pub off-stored : b < 256 → {at₂ : ℕ} {after : Bytes} → at₂ ≡ 2 + s / 8 → after ≡ put 1 im at₂ (b - 1 * 2 ^ (s % 8) % 256)
         → after ≡ deactivate im s
-    unfolding if◌then◌else◌
+    unfolding when◌then◌else◌
     off-stored small p e = rw (own, eq-eqb (b / 2 ^ (s % 8) % 2) 1 on) (stored im s p e (rw (shifted s)) (omega arith))
 
     pub on-kept : im ≡ activate im s
-    unfolding if◌then◌else◌
+    unfolding when◌then◌else◌
     on-kept = rw (own, eq-eqb (b / 2 ^ (s % 8) % 2) 1 on, ← own) (sym (set-get_or im (2 + s / 8) 0))

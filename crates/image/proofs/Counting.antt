@@ -11,7 +11,7 @@ use lib.ListN.{length, replicate, set, length-append, length-set, get_or-replica
 use lib.Seq.{get_or-set_same, get_or-set_other}
 use borrow.Author.Tests.{eqb-true, eqb-false, eq-eqb}
 use Rattle.rules.specs.Bytes.{Bytes, byte, put}
-use Rattle.rules.specs.Lists.{if◌then◌else◌, up_from, range, keep}
+use Rattle.rules.specs.Lists.{when◌then◌else◌, up_from, range, keep}
 use Rattle.rules.specs.Chart.{State, Chart, states, parent, children, is_one_of}
 use Rattle.rules.specs.Image.{Image, is_active, shape_at}
 use Rattle.rules.proofs.Members.{keep-length}
@@ -36,8 +36,8 @@ range-more a k h =
     rw (q, up_more a (k - a), e)
 
 -- what a test keeps: of two lists, and of a range with one more at its end
-test-append : (t : Bool) (x : ℕ) (l m : List ℕ) → (if t then x ∷ (l ++ m) else (l ++ m)) ≡ (if t then x ∷ l else l) ++ m
-unfolding if◌then◌else◌
+test-append : (t : Bool) (x : ℕ) (l m : List ℕ) → (when t then x ∷ (l ++ m) else (l ++ m)) ≡ (when t then x ∷ l else l) ++ m
+unfolding when◌then◌else◌
 test-append true x l m = refl
 test-append false x l m = refl
 
@@ -49,16 +49,16 @@ module _ (f : ℕ → Bool) where
 
   module _ (a k : ℕ) (h : a ≤ k) where
     counted : f k ≡ true → length (keep f (range a (k + 1))) ≡ length (keep f (range a k)) + 1
-    unfolding keep if◌then◌else◌
+    unfolding keep when◌then◌else◌
     counted p = rw (range-more a k h, keep_append (range a k) (k ∷ []), p) (length-append (keep f (range a k)) (k ∷ []))
 
     passed : f k ≡ false → length (keep f (range a (k + 1))) ≡ length (keep f (range a k))
-    unfolding keep if◌then◌else◌
+    unfolding keep when◌then◌else◌
     passed p = rw (range-more a k h, keep_append (range a k) (k ∷ []), p, append-nil (keep f (range a k)))
 
 -- what two tests keep, one after the other
-test-again : (g : ℕ → Bool) (t : Bool) (x : ℕ) (l : List ℕ) → keep g (if t then x ∷ l else l) ≡ (if t && g x then x ∷ keep g l else keep g l)
-unfolding keep if◌then◌else◌
+test-again : (g : ℕ → Bool) (t : Bool) (x : ℕ) (l : List ℕ) → keep g (when t then x ∷ l else l) ≡ (when t && g x then x ∷ keep g l else keep g l)
+unfolding keep when◌then◌else◌
 test-again g true x l = refl
 test-again g false x l = refl
 
@@ -164,7 +164,7 @@ module _ {im : Image} {c : Chart} {e k : ℕ} {all active : Bytes} (w : Walk im 
 -- the test of one state, of what the tables have there
 pub shape-tested : {im : Image} {c : Chart} {all active : Bytes} (t : Counted im c all active) (s : State) → s < 256
     → {some every wanted : ℕ} → some ≡ byte active s → every ≡ byte all s
-    → wanted ≡ (if is_active im s then (if is_one_of c s then 1 else every) else 0)
+    → wanted ≡ (when is_active im s then (when is_one_of c s then 1 else every) else 0)
     → shape_at im c s ≡ eqb some wanted
 unfolding shape_at
 shape-tested t s h p q r = rw (p, r, q, t.every s h, t.some s h)

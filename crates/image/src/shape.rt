@@ -1,7 +1,7 @@
 // Demand 3's shape: how many children of each state are active.
 ghost use Rattle.std.specs.Prelude.{◌≡◌, ◌+◌, ◌<◌, replicate};
 ghost use Rattle.rules.specs.Bytes.{byte, put};
-ghost use Rattle.rules.specs.Lists.{if◌then◌else◌, below, every};
+ghost use Rattle.rules.specs.Lists.{when◌then◌else◌, below, every};
 ghost use Rattle.rules.specs.Chart.{is_one_of};
 ghost use Rattle.rules.specs.Image as rules;
 ghost use Rattle.chart.specs.Places.{header_of};
@@ -42,7 +42,7 @@ fn count(image: &[u8], chart: &[u8], h: Header, children: &mut [u8], active: &mu
 
 // How many children of a state are to be active, of so many.
 fn wanted(image: &[u8], chart: &[u8], s: StateNo, children: u8) -> u8
-    ensures { result ≡ (if rules.is_active image.now s.0 then (if is_one_of chart.now s.0 then 1 else children) else 0) }
+    ensures { result ≡ (when rules.is_active image.now s.0 then (when is_one_of chart.now s.0 then 1 else children) else 0) }
 {
     if !active::is_active(image, s) {
         return 0;

@@ -6,7 +6,7 @@ use mathlib.Core.List.{List, [], ◌∷◌}
 use Prim.Native.Nat.{ℕ, zero, suc, ◌+◌, ◌-◌, ◌≤◌, ◌<◌}
 use lib.Dec.{eqb}
 use borrow.Author.Tests.{eq-eqb, ne_eqb}
-use Rattle.rules.specs.Lists.{if◌then◌else◌, range, keep, ◌else◌}
+use Rattle.rules.specs.Lists.{when◌then◌else◌, range, keep, ◌else◌}
 use Rattle.rules.specs.Chart.{Chart, State, parent, is_one_of, children}
 use Rattle.rules.specs.Doing.{Now, Outcome, refused, went, Done, after, done, give, ◌>>=◌, ◌>>◌, look, each}
 use Rattle.rules.specs.Fire.{to_enter, enter_each, enter}
@@ -74,9 +74,9 @@ done-after (went a n) = refl
 module _ (c : Chart) (f : State → Done) (target s : State) (n : Now) where
   pub enter-chosen : is_one_of c s ≡ true → {k : State} → k ≡ chosen_child c s target n.image → {all : Outcome (Unit {0})}
       → all ≡ f k n → all ≡ enter_each c f target s n
-  unfolding enter_each to_enter chosen_child look ◌>>=◌ ◌>>◌ each if◌then◌else◌
+  unfolding enter_each to_enter chosen_child look ◌>>=◌ ◌>>◌ each when◌then◌else◌
   enter-chosen b e told = rw (b, sym e) (told ∙ sym (done-after (f _ n)))
 
   pub enter-each : is_one_of c s ≡ false → {all : Outcome (Unit {0})} → all ≡ each f (children c s) n → all ≡ enter_each c f target s n
-  unfolding enter_each to_enter look ◌>>=◌ if◌then◌else◌
+  unfolding enter_each to_enter look ◌>>=◌ when◌then◌else◌
   enter-each b told = rw b told

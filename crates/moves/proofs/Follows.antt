@@ -9,7 +9,7 @@ use native.Mathlib.Omega.{arith}
 use native.Mathlib.Numerals.{add-one}
 use lib.ListN.{length, drop, get_or}
 use lib.Seq.{drop-cons}
-use Rattle.rules.specs.Lists.{if◌then◌else◌, every, first}
+use Rattle.rules.specs.Lists.{when◌then◌else◌, every, first}
 use Rattle.rules.specs.Image.{Image}
 use Rattle.rules.specs.Doing as rules
 use Rattle.rules.specs.Doing.{Outcome, went, after, each}
@@ -101,9 +101,9 @@ module _ (f : ℕ → Bool) {was : ℕ} {left : List ℕ} (still : was ≡ first
 
   module _ {x : ℕ} {left' : List ℕ} (e : left ≡ x ∷ left') where
     pub first-here : f x ≡ true → x ≡ was
-    unfolding first if◌then◌else◌
+    unfolding first when◌then◌else◌
     first-here p = rw (still, e, p)
 
     pub first-later : f x ≡ false → was ≡ first f left'
-    unfolding first if◌then◌else◌
+    unfolding first when◌then◌else◌
     first-later p = rw (still, e, p)

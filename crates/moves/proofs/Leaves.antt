@@ -6,7 +6,7 @@ use mathlib.Core.List.{List, [], ◌∷◌}
 use Prim.Native.Nat.{ℕ, zero, suc, ◌-◌, ◌≤◌, ◌<◌}
 use native.Mathlib.Omega.{arith}
 use lib.Dec.{eqb}
-use Rattle.rules.specs.Lists.{if◌then◌else◌, down_from, keep}
+use Rattle.rules.specs.Lists.{when◌then◌else◌, down_from, keep}
 use Rattle.rules.specs.Chart.{Chart, State, parent, keeps_history, children_down}
 use Rattle.rules.specs.Image.{is_active}
 use Rattle.rules.specs.Doing.{Now, Outcome, Done, done, give, ◌>>◌, change, pay, each, when_active}
@@ -19,7 +19,7 @@ use Rattle.moves.proofs.Follows.{less_one}
 
 -- a history parent records s or not: the image is the one remembered
 pub noted-left : (c : Chart) (s : State) (n : Now) → parent_records c s n ≡ change (remembered c s) n
-unfolding parent_records remembered if◌then◌else◌ change done give
+unfolding parent_records remembered when◌then◌else◌ change done give
 noted-left c s n = by (keeps_history c (parent c s)) refl
   where
     by : (t : Bool) → keeps_history c (parent c s) ≡ t → parent_records c s n ≡ change (remembered c s) n
@@ -36,7 +36,7 @@ leave-some c (suc d) s n deep = rw less_one
 -- for an active one it is done
 pub when-active : (s : State) (m : Done) (n : Now) → is_active n.image s ≡ true → {all : Outcome (Unit {0})}
     → all ≡ m n → all ≡ when_active s m n
-unfolding when_active if◌then◌else◌
+unfolding when_active when◌then◌else◌
 when-active s m n e told = rw e told
 
 -- the children of s with a number below k, the highest first
@@ -63,13 +63,13 @@ module _ (c : Chart) (s k : State) where
     highest = highest-first (k - 1) (omega arith)
 
     pub a-child : eqb (parent c (k - 1)) s ≡ true → children_below c s k ≡ (k - 1) ∷ children_below c s (k - 1)
-    unfolding keep if◌then◌else◌
+    unfolding keep when◌then◌else◌
     a-child e = rw (highest, e)
 
     -- no child, or one that is not active
     pub passed_over : (f : State → Done) (n : Now) (t : Bool)
         → eqb (parent c (k - 1)) s ≡ t → t && is_active n.image (k - 1) ≡ false
         → each (λ i. when_active i (f i)) (children_below c s k) n ≡ each (λ i. when_active i (f i)) (children_below c s (k - 1)) n
-    unfolding keep when_active if◌then◌else◌ done give
+    unfolding keep when_active when◌then◌else◌ done give
     passed_over f n true p e = rw (highest, p) (each-went _ (k - 1) _ n (rw e))
     passed_over f n false p e = rw (highest, p)

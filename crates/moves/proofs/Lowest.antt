@@ -9,7 +9,7 @@ use native.Mathlib.Numerals.{add-one}
 use lib.ListN.{length, take, drop, get_or, set, drop_of_length-le}
 use lib.Seq.{take-suc-set, append_snoc, length-take-le, get_or-take}
 use borrow.Author.Tests.{eq-eqb, ne_eqb}
-use Rattle.rules.specs.Lists.{if◌then◌else◌, every, keep, first}
+use Rattle.rules.specs.Lists.{when◌then◌else◌, every, keep, first}
 use Rattle.rules.specs.Chart.{Chart, State, Segment, deepest, parent, ends_on_state, lineage, over}
 use Rattle.rules.specs.Fire.{junction_parents, common}
 use Rattle.moves.specs.Steps.{over_end}
@@ -18,12 +18,12 @@ use Rattle.moves.proofs.Follows.{less_one, next-at}
 -- a lineage by its lowest state: the root, another, the last that may be
 module _ (c : Chart) (at : State) where
   lineage-of-root : (left : ℕ) → at ≡ 0 → lineage c left at ≡ at ∷ []
-  unfolding lineage if◌then◌else◌
+  unfolding lineage when◌then◌else◌
   lineage-of-root zero q = refl
   lineage-of-root (suc n) q = rw (eq-eqb at 0 q)
 
   lineage-of-child : (left : ℕ) → 0 < left → (at ≡ 0 → ⊥) → lineage c left at ≡ at ∷ lineage c (left - 1) (parent c at)
-  unfolding lineage if◌then◌else◌
+  unfolding lineage when◌then◌else◌
   lineage-of-child zero h d = absurd (omega arith)
   lineage-of-child (suc n) h d = rw (ne_eqb at 0 d, less_one)
 
@@ -57,7 +57,7 @@ module _ (c : Chart) (a : State) where
   one_end : (t : Segment) (ts : List Segment) (on-state : Bool) → ends_on_state c t ≡ on-state
       → every (over c a) (junction_parents c ts) ≡ every (over_end c a) ts
       → every (over c a) (junction_parents c (t ∷ ts)) ≡ every (over_end c a) (t ∷ ts)
-  unfolding over_end junction_parents keep every if◌then◌else◌
+  unfolding over_end junction_parents keep every when◌then◌else◌
   one_end t ts true p e = rw p e
   one_end t ts false p e = rw (p, e)
 

@@ -7,7 +7,7 @@ use native.Mathlib.Decide.{ℕ_discrete}
 use native.Mathlib.Omega.{arith}
 use lib.ListN.{length}
 use borrow.Author.Tests.{eq-eqb, ne_eqb, eqb-true, eqb-false}
-use Rattle.rules.specs.Lists.{if◌then◌else◌, keep}
+use Rattle.rules.specs.Lists.{when◌then◌else◌, keep}
 use Rattle.rules.specs.Chart.{State, Chart, states, kind, is_one_of, children}
 use Rattle.rules.specs.Image.{Image, is_active}
 use Rattle.rules.proofs.Members.{keep-length}
@@ -18,7 +18,7 @@ use Rattle.promises.specs.Many.{active_children, WellShaped}
 
 module _ (c : Chart) (im : Image) where
   pub fine-shaped : is_active im 0 ≡ true → ((s : State) → s < states c → Fine c (is_active im) s) → WellShaped c im
-  unfolding active_children wanted if◌then◌else◌
+  unfolding active_children wanted when◌then◌else◌
   fine-shaped root fine =
       record {
         root = root;
@@ -28,7 +28,7 @@ module _ (c : Chart) (im : Image) where
       }
 
   pub shaped-fine : Right c → WellShaped c im → (s : State) → s < states c → Fine c (is_active im) s
-  unfolding active_children wanted if◌then◌else◌
+  unfolding active_children wanted when◌then◌else◌
   shaped-fine rt w s h = count-fine c im s (counted (is_active im s) (is_one_of c s) refl refl)
     where
       none : length (keep (is_active im) (children c s)) ≤ length (children c s)

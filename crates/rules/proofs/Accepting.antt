@@ -11,7 +11,7 @@ use native.Mathlib.Omega.{arith}
 use lib.Dec.{eqb}
 use lib.ListN.{length}
 use borrow.Author.Tests.{eq-eqb, eqb-true, not-true}
-use Rattle.rules.specs.Lists.{if◌then◌else◌, range, every, all, keep}
+use Rattle.rules.specs.Lists.{when◌then◌else◌, range, every, all, keep}
 use Rattle.rules.specs.Chart.{State, Chart, states, variables, is_one_of, keeps_history, children}
 use Rattle.rules.specs.Image.{Image, is_active, recorded, not_started, rest_zero, history_sound, shape_at, shape, accepted}
 use Rattle.rules.proofs.Laws.{both, and_left, and_right, and_both, or_cases, or_left, or_right, clash}
@@ -36,7 +36,7 @@ single (x ∷ (y ∷ ys)) e = absurd (omega arith)
 
 -- how many children of s are to be active, where s is active or not, one-of or not
 unfoldable pub wanted : Chart → State → Bool → Bool → ℕ
-wanted c s active one_of = if active then (if one_of then 1 else length (children c s)) else 0
+wanted c s active one_of = when active then (when one_of then 1 else length (children c s)) else 0
 
 module _ (c : Chart) (im : Image) (s : State) where
   -- the active children
@@ -44,7 +44,7 @@ module _ (c : Chart) (im : Image) (s : State) where
   active = keep (is_active im) (children c s)
 
   pub fine-count : Fine c (is_active im) s → (a o : Bool) → is_active im s ≡ a → is_one_of c s ≡ o → length active ≡ wanted c s a o
-  unfolding wanted if◌then◌else◌
+  unfolding wanted when◌then◌else◌
   fine-count f true true p q =
       let (k, ch, on, only) = f.one p q in
       alone _ (keep-distinct _ _ (children-distinct c s)) k (mem-keep _ _ (mem-children c s k ch) on)
@@ -53,7 +53,7 @@ module _ (c : Chart) (im : Image) (s : State) where
   fine-count f false o p q = ap length (keep-none _ _ (λ j m. f.idle p j (children-mem c s m)))
 
   pub count-fine : length active ≡ wanted c s (is_active im s) (is_one_of c s) → Fine c (is_active im) s
-  unfolding wanted if◌then◌else◌
+  unfolding wanted when◌then◌else◌
   count-fine e =
       record {
         idle = λ a k ch. none_kept (is_active im) (children c s) (rw a at e) (mem-children c s k ch);

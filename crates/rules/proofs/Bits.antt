@@ -8,7 +8,7 @@ use native.Mathlib.Nat.{add-div_right, div-eq-sub-div, div-div-eq-div-mul, le-di
 use native.Mathlib.Omega.{arith}
 use lib.Pow.{pow_pos}
 use borrow.Author.Tests.{ne_eqb, eqb-true, eqb-false}
-use Rattle.rules.specs.Lists.{if◌then◌else◌}
+use Rattle.rules.specs.Lists.{when◌then◌else◌}
 use Rattle.rules.specs.Bytes.{bit, bit_on, bit_off}
 use Rattle.rules.proofs.Laws.{two}
 
@@ -43,21 +43,21 @@ off-other b k j e d =
     rw back at (sym (on-other (b - 2 ^ k) k j (off-here b k e) d))
 
 pub on-bit-same : (b k : ℕ) → bit (bit_on b k) k ≡ true
-unfolding if◌then◌else◌
+unfolding when◌then◌else◌
 on-bit-same b k =
     elim (two (bit b k)) [ inl e ↦ rw e e | inr e ↦ rw (e, on-here b k (eqb-false _ _ e)) ]
 
 pub on-bit-other : (b k j : ℕ) → (j ≡ k → ⊥) → bit (bit_on b k) j ≡ bit b j
-unfolding if◌then◌else◌
+unfolding when◌then◌else◌
 on-bit-other b k j d =
     elim (two (bit b k)) [ inl e ↦ rw e | inr e ↦ rw (e, on-other b k j (eqb-false _ _ e) d) ]
 
 pub off-bit-same : (b k : ℕ) → bit (bit_off b k) k ≡ false
-unfolding if◌then◌else◌
+unfolding when◌then◌else◌
 off-bit-same b k =
     elim (two (bit b k)) [ inl e ↦ rw e (ne_eqb _ _ (off-here b k (eqb-true _ _ e))) | inr e ↦ rw e e ]
 
 pub off-bit-other : (b k j : ℕ) → (j ≡ k → ⊥) → bit (bit_off b k) j ≡ bit b j
-unfolding if◌then◌else◌
+unfolding when◌then◌else◌
 off-bit-other b k j d =
     elim (two (bit b k)) [ inl e ↦ rw (e, off-other b k j (eqb-true _ _ e) d) | inr e ↦ rw e ]

@@ -11,7 +11,7 @@ use lib.Dec.{ltb}
 use lib.ListN.{length}
 use lib.IntN.{ℤ}
 use borrow.Author.Tests.{ltb-true}
-use Rattle.rules.specs.Lists.{if◌then◌else◌, up_from, every}
+use Rattle.rules.specs.Lists.{when◌then◌else◌, up_from, every}
 use Rattle.rules.specs.Chart as C
 use Rattle.rules.specs.Chart.{State, Chart, Block, Op, Instruction, states, variables, instruction, code}
 use Rattle.rules.specs.Accept.{op_rule, is_send, operands_right}
@@ -68,7 +68,7 @@ module _ (c : Chart) (tr : Tree c) (I F : Claim) {send_op : SendOp}
 
   pub t-instruct : (o : Op) (i : Instruction) (st : Stack) → operands_right c (op_rule o).operands i ≡ true
       → (Bounded c → is_send o ≡ false) → Performs 0 (instruct send_op o i st)
-  unfolding instruct op_rule is_send operands_right if◌then◌else◌
+  unfolding instruct op_rule is_send operands_right when◌then◌else◌
   t-instruct C.push i st v q = t_same _
   t-instruct C.load i st v q = t-bind {b' = 0} t-look (λ a. t-give _ (λ im p. p.1))
   t-instruct C.store i st v q =
@@ -85,7 +85,7 @@ module _ (c : Chart) (tr : Tree c) (I F : Claim) {send_op : SendOp}
   t-instruct C.raise i st v q = t-then {b' = 0} (t-note _ i.a) (t_same _)
   t-instruct C.send i st v q =
       t-bind {b' = 0} (sends (λ x. clash refl (q x)) i.a (sent_to i) (sends-to-state c tr.most i v))
-      (λ g. elim g as (λ k. Triple {A = Ran} (Bounded c) 0 (After I F k) (give (if k then abandoned else ran st)) (How I F)) [ true ↦ t_same _ | false ↦ t_same _ ])
+      (λ g. elim g as (λ k. Triple {A = Ran} (Bounded c) 0 (After I F k) (give (when k then abandoned else ran st)) (How I F)) [ true ↦ t_same _ | false ↦ t_same _ ])
   t-instruct C.unknown i st v q = t_same _
 
   t-perform : (st : Stack) (xs : List ℕ) → every (has_operands c) (map (instruction c) xs) ≡ true

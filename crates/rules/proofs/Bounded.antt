@@ -11,7 +11,7 @@ use native.Mathlib.Numerals.{add-one}
 use native.Mathlib.Omega.{arith}
 use lib.ListN.{length}
 use borrow.Author.Tests.{eq-eqb, not-true}
-use Rattle.rules.specs.Lists.{if◌then◌else◌, below, is_in, sum_over}
+use Rattle.rules.specs.Lists.{when◌then◌else◌, below, is_in, sum_over}
 use Rattle.rules.specs.Chart.{Junction, Segment, Chart, junctions, segments, instructions, destination, condition, condition_action, instruction, from_junction, ends_on_state}
 use Rattle.rules.specs.Accept.{is_send}
 use Rattle.rules.specs.Bound.{WWithin, W, leads_to, onward, reaches, loops, bound_refusal}
@@ -25,7 +25,7 @@ pub record Bounded (c : Chart) : Type 0 where
   pub silent : (i : ℕ) → i < instructions c → is_send (instruction c i).op ≡ false
   pub weight : (t : Segment) → t < segments c
       → 1 + (condition c t).count + (condition_action c t).count
-      + (if ends_on_state c t then 0 else sum_over (W c) (from_junction c (destination c t))) ≤ W c t
+      + (when ends_on_state c t then 0 else sum_over (W c) (from_junction c (destination c t))) ≤ W c t
 
 module _ (c : Chart) where
   own_is : (j : Junction) {t : Segment} → Mem t (from_junction c j) → t < segments c
@@ -83,7 +83,7 @@ module _ (c : Chart) where
   weighs-no-more : (n : ℕ) (t : Segment)
       → (ends_on_state c t ≡ false → ahead (suc n) (destination c t) ≤ ahead n (destination c t))
       → WWithin c (suc (suc n)) t ≤ WWithin c (suc n) t
-  unfolding WWithin if◌then◌else◌
+  unfolding WWithin when◌then◌else◌
   weighs-no-more n t h =
       elim (two (ends_on_state c t)) [ inl e ↦ rw e (omega arith) | inr e ↦ rw e (omega (arith, h e)) ]
 

@@ -6,7 +6,7 @@ use mathlib.Core.List.{List, [], ◌∷◌}
 use Prim.Native.Nat.{ℕ, zero, suc, ◌≤◌}
 use native.Mathlib.Omega.{arith}
 use lib.IntN.{ℤ, pos}
-use Rattle.rules.specs.Lists.{if◌then◌else◌}
+use Rattle.rules.specs.Lists.{when◌then◌else◌}
 use Rattle.rules.specs.Chart as C
 use Rattle.rules.specs.Chart.{State, Segment, Chart, Block, Op, Instruction}
 use Rattle.rules.specs.Image.{Image, is_active, not_started}
@@ -28,8 +28,8 @@ pub record Closed (Φ : (A : Type 0) → Doing A → Type 0) : Type 1 where
   pub binds : {A B : Type 0} {m : Doing A} {f : A → Doing B} → Φ _ m → ((a : A) → Φ _ (f a)) → Φ _ (D.◌>>=◌ m f)
 
 -- to choose a doing and do it, or to do the one or the other
-either : {A : Type 0} (m k : Doing A) (n : Now) (t : Bool) → (if t then m else k) n ≡ (if t then m n else k n)
-unfolding if◌then◌else◌
+either : {A : Type 0} (m k : Doing A) (n : Now) (t : Bool) → (when t then m else k) n ≡ (when t then m n else k n)
+unfolding when◌then◌else◌
 either m k n true = refl
 either m k n false = refl
 
@@ -49,13 +49,13 @@ module _ {Φ : (A : Type 0) → Doing A → Type 0} (law : Closed Φ) where
   done-has = gives tt
 
   module _ {A : Type 0} where
-    pub if-has : {m k : Doing A} (t : Bool) → Φ _ m → Φ _ k → Φ _ (if t then m else k)
-    unfolding if◌then◌else◌
+    pub if-has : {m k : Doing A} (t : Bool) → Φ _ m → Φ _ k → Φ _ (when t then m else k)
+    unfolding when◌then◌else◌
     if-has true hm hk = hm
     if-has false hm hk = hk
 
     -- the test is of the image as it is now
-    choice-has : {m k : Doing A} (t : Image → Bool) → Φ _ m → Φ _ k → Φ _ (λ n. if t n.image then m n else k n)
+    choice-has : {m k : Doing A} (t : Image → Bool) → Φ _ m → Φ _ k → Φ _ (λ n. when t n.image then m n else k n)
     unfolding D.◌>>=◌ look
     choice-has {m} {k} t hm hk =
         subst (Φ _) (fun_ext (λ n. either m k n (t n.image))) (looks >>= (λ im. if-has (t im) hm hk))

@@ -10,7 +10,7 @@ use native.Mathlib.Omega.{arith}
 use lib.Dec.{eqb}
 use lib.ListN.{length}
 use borrow.Author.Tests.{eq-eqb, ne_eqb, eqb-true}
-use Rattle.rules.specs.Lists.{if◌then◌else◌, up_from, down_from, below, range, keep, sum_over}
+use Rattle.rules.specs.Lists.{when◌then◌else◌, up_from, down_from, below, range, keep, sum_over}
 use Rattle.rules.proofs.Laws.{two, clash}
 use Rattle.rules.proofs.Members.{Mem, keep-mem, mem-keep, up_from-mem, down_from-mem, mem_below}
 
@@ -33,7 +33,7 @@ down_from-distinct zero = tt
 down_from-distinct (suc n) = (λ m. omega (arith, down_from-mem n m), down_from-distinct n)
 
 pub keep-distinct : (f : ℕ → Bool) (xs : List ℕ) → Distinct xs → Distinct (keep f xs)
-unfolding keep if◌then◌else◌
+unfolding keep when◌then◌else◌
 keep-distinct f [] d = tt
 keep-distinct f (x ∷ xs) d =
     let k = keep-distinct f xs d.1 in
@@ -58,14 +58,14 @@ other x y = not (eqb y x)
 
 module _ (f : ℕ → ℕ) where
   keep-light : (g : ℕ → Bool) (ys : List ℕ) → sum_over f (keep g ys) ≤ sum_over f ys
-  unfolding keep if◌then◌else◌ sum_over
+  unfolding keep when◌then◌else◌ sum_over
   keep-light g [] = omega arith
   keep-light g (y ∷ ys) =
       let l = keep-light g ys in
       elim (two (g y)) [ inl e ↦ rw e (omega arith) | inr e ↦ rw e (omega arith) ]
 
   without : (x : ℕ) (ys : List ℕ) → Mem x ys → f x + sum_over f (keep (other x) ys) ≤ sum_over f ys
-  unfolding keep if◌then◌else◌ sum_over
+  unfolding keep when◌then◌else◌ sum_over
   without x [] m = absurd (Memᴰ.not-nil m)
   without x (y ∷ ys) m =
       elim (two (eqb y x)) [

@@ -9,7 +9,7 @@ use mathlib.Core.List.{List, [], ◌∷◌}
 use Prim.Native.Nat.{ℕ, zero, suc, ◌+◌, ◌≤◌, ◌<◌}
 use native.Mathlib.Decide.{ℕ_discrete}
 use native.Mathlib.Omega.{arith}
-use Rattle.rules.specs.Lists.{if◌then◌else◌, sum_over, ◌else◌}
+use Rattle.rules.specs.Lists.{when◌then◌else◌, sum_over, ◌else◌}
 use Rattle.rules.specs.Chart.{State, Chart, states, parent, initial, is_one_of, children, entry, over}
 use Rattle.rules.specs.Image.{Image, is_active, recorded, activate}
 use Rattle.rules.specs.Doing.{Done, state_entered}
@@ -81,7 +81,7 @@ module _ (c : Chart) (rt : Right c) where
   on-the-way s target = ⊎_map (λ e. e) (λ m. children-mem c s m.0) (first-mem (λ k. over c k target) (children c s))
 
   choice : (s target : State) (im : Image) → s < states c → Sound c im → Choice c s (to_enter c s target im)
-  unfolding to_enter if◌then◌else◌
+  unfolding to_enter when◌then◌else◌
   choice s target im h so =
       elim (two (is_one_of c s)) [
         | inl o ↦ rw o

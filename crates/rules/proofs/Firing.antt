@@ -9,7 +9,7 @@ use Prim.Native.Nat.{ℕ, zero, suc, ◌+◌, ◌≤◌, ◌<◌}
 use native.Mathlib.Decide.{ℕ_discrete}
 use native.Mathlib.Omega.{arith}
 use lib.Dec.{eqb}
-use Rattle.rules.specs.Lists.{if◌then◌else◌, below, first, sum_over}
+use Rattle.rules.specs.Lists.{when◌then◌else◌, below, first, sum_over}
 use Rattle.rules.specs.Chart.{State, Segment, Chart, deepest, states, segments, parent, transition_action, children, lineage}
 use Rattle.rules.specs.Image.{Image, is_active}
 use Rattle.rules.specs.Doing.{each, transition_performed}
@@ -79,7 +79,7 @@ module _ (c : Chart) (rt : Right c) where
         elim (first-mem f (lineage c deepest s)) [ inl e ↦ rw e up_root | inr m ↦ up-lineage deepest s u _ m.0 ]
 
     pub up-arena : (source target : State) (path : List Segment) → Up c im source → Up c im (arena c source target path)
-    unfolding arena common if◌then◌else◌
+    unfolding arena common when◌then◌else◌
     up-arena source target path u =
         elim (two (eqb source target && eqb source (common c source target path)))
         [ inl e ↦ rw e (up-parent source u) | inr e ↦ rw e (up_first source u _) ]

@@ -7,7 +7,7 @@ use mathlib.Core.List.{List, [], ◌∷◌}
 use Prim.Native.Nat.{ℕ, zero, suc, ◌<◌}
 use native.Mathlib.Omega.{arith}
 use lib.ListN.{length, get_or}
-use Rattle.rules.specs.Lists.{if◌then◌else◌, every, ◌else◌}
+use Rattle.rules.specs.Lists.{when◌then◌else◌, every, ◌else◌}
 use Rattle.rules.specs.Accept.{◌unless◌next◌}
 
 pub both : (a b : Bool) → a && b ≡ true → (a ≡ true) × (b ≡ true)
@@ -47,8 +47,8 @@ pub not_yes : (b : Bool) → (b ≡ true → ⊥) → b ≡ false
 not_yes true f = absurd (f refl)
 not_yes false f = refl
 
-pub if-false : {A : Type 0} (b : Bool) (x y : A) → b ≡ false → (if b then x else y) ≡ y
-unfolding if◌then◌else◌
+pub if-false : {A : Type 0} (b : Bool) (x y : A) → b ≡ false → (when b then x else y) ≡ y
+unfolding when◌then◌else◌
 if-false b x y e = rw e
 
 -- a test that passes at each of a list passes at the one at k

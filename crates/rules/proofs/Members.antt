@@ -10,7 +10,7 @@ use native.Mathlib.Omega.{arith}
 use lib.Dec.{eqb}
 use lib.ListN.{length}
 use borrow.Author.Tests.{eq-eqb, eqb-true}
-use Rattle.rules.specs.Lists.{if◌then◌else◌, up_from, down_from, below, range, every, any, keep, first, is_in}
+use Rattle.rules.specs.Lists.{when◌then◌else◌, up_from, down_from, below, range, every, any, keep, first, is_in}
 use Rattle.rules.proofs.Laws.{and_left, and_right, and_both, or_cases, or_left, or_right, two, clash, not_yes}
 
 abbrev pub Mem : ℕ → List ℕ → Type 0
@@ -46,7 +46,7 @@ module _ {A : Type 0} (f : A → Bool) where
       [ inl q ↦ or_left (f y) _ (rw q at e) | inr n ↦ or_right (f y) _ (mem-any ys n e) ]
 
   pub keep-mem : (xs : List A) {x : A} → Memᴰ x (keep f xs) → Memᴰ x xs × (f x ≡ true)
-  unfolding keep if◌then◌else◌
+  unfolding keep when◌then◌else◌
   keep-mem [] m = absurd (Memᴰ.not-nil m)
   keep-mem (y ∷ ys) m =
       elim (two (f y)) [
@@ -59,7 +59,7 @@ module _ {A : Type 0} (f : A → Bool) where
       ]
 
   pub mem-keep : (xs : List A) {x : A} → Memᴰ x xs → f x ≡ true → Memᴰ x (keep f xs)
-  unfolding keep if◌then◌else◌
+  unfolding keep when◌then◌else◌
   mem-keep [] m e = absurd (Memᴰ.not-nil m)
   mem-keep (y ∷ ys) m e =
       elim (Memᴰ.cases_cons m) [
@@ -70,24 +70,24 @@ module _ {A : Type 0} (f : A → Bool) where
       ]
 
   pub keep-none : (xs : List A) → ((x : A) → Memᴰ x xs → f x ≡ false) → keep f xs ≡ []
-  unfolding keep if◌then◌else◌
+  unfolding keep when◌then◌else◌
   keep-none [] h = refl
   keep-none (y ∷ ys) h = rw (h y (Memᴰ.head refl)) (keep-none ys (λ x m. h x (Memᴰ.tail m)))
 
   pub keep_all : (xs : List A) → ((x : A) → Memᴰ x xs → f x ≡ true) → keep f xs ≡ xs
-  unfolding keep if◌then◌else◌
+  unfolding keep when◌then◌else◌
   keep_all [] h = refl
   keep_all (y ∷ ys) h = rw (h y (Memᴰ.head refl), keep_all ys (λ x m. h x (Memᴰ.tail m)))
 
   pub keep-length : (xs : List A) → length (keep f xs) ≤ length xs
-  unfolding keep if◌then◌else◌
+  unfolding keep when◌then◌else◌
   keep-length [] = omega arith
   keep-length (y ∷ ys) =
       let h = keep-length ys in
       elim (two (f y)) [ inl e ↦ rw e (omega arith) | inr e ↦ rw e (omega arith) ]
 
   pub all-kept : (xs : List A) → length (keep f xs) ≡ length xs → {x : A} → Memᴰ x xs → f x ≡ true
-  unfolding keep if◌then◌else◌
+  unfolding keep when◌then◌else◌
   all-kept [] e m = absurd (Memᴰ.not-nil m)
   all-kept (y ∷ ys) e m =
       elim (two (f y)) [
@@ -114,7 +114,7 @@ mem-is_in n xs m = mem-any (eqb n) xs m (eq-eqb n n refl)
 
 -- the first that passes is of the list, or there is none and it is 0
 pub first-mem : (f : ℕ → Bool) (xs : List ℕ) → (first f xs ≡ 0) ⊎ (Mem (first f xs) xs × (f (first f xs) ≡ true))
-unfolding first if◌then◌else◌
+unfolding first when◌then◌else◌
 first-mem f [] = inl refl
 first-mem f (y ∷ ys) =
     elim (two (f y)) [
@@ -125,7 +125,7 @@ first-mem f (y ∷ ys) =
 -- of one that alone passes, it is the first; of none, 0
 pub first-only : (f : ℕ → Bool) (xs : List ℕ) (q : ℕ) → Mem q xs → f q ≡ true → ((x : ℕ) → Mem x xs → f x ≡ true → x ≡ q)
     → first f xs ≡ q
-unfolding first if◌then◌else◌
+unfolding first when◌then◌else◌
 first-only f [] q m y u = absurd (Memᴰ.not-nil m)
 first-only f (x ∷ xs) q m y u =
     elim (two (f x)) [
@@ -135,18 +135,18 @@ first-only f (x ∷ xs) q m y u =
     ]
 
 pub first-none : (f : ℕ → Bool) (xs : List ℕ) → ((x : ℕ) → Mem x xs → f x ≡ false) → first f xs ≡ 0
-unfolding first if◌then◌else◌
+unfolding first when◌then◌else◌
 first-none f [] u = refl
 first-none f (x ∷ xs) u = rw (u x (Memᴰ.head refl)) (first-none f xs (λ y i. u y (Memᴰ.tail i)))
 
 -- nothing, or a list
-pub else-mem : {x : ℕ} {xs : List ℕ} (b : Bool) → Mem x (if b then [] else xs) → (b ≡ false) × Mem x xs
-unfolding if◌then◌else◌
+pub else-mem : {x : ℕ} {xs : List ℕ} (b : Bool) → Mem x (when b then [] else xs) → (b ≡ false) × Mem x xs
+unfolding when◌then◌else◌
 else-mem true m = absurd (Memᴰ.not-nil m)
 else-mem false m = (refl, m)
 
-pub mem-else : {x : ℕ} {xs : List ℕ} (b : Bool) → b ≡ false → Mem x xs → Mem x (if b then [] else xs)
-unfolding if◌then◌else◌
+pub mem-else : {x : ℕ} {xs : List ℕ} (b : Bool) → b ≡ false → Mem x xs → Mem x (when b then [] else xs)
+unfolding when◌then◌else◌
 mem-else b e m = rw e m
 
 pub up_from-mem : (a n : ℕ) {x : ℕ} → Mem x (up_from a n) → (a ≤ x) × (x < a + n)

@@ -23,7 +23,7 @@ unfolding Bytes.ascii Bytes.bytes_of Bytes.put Bytes.signed Bytes.unsigned Bytes
 bytes = tt
 
 unfoldable pub lists : Unit {0}
-unfolding Lists.if◌then◌else◌ Lists.up_from Lists.down_from Lists.below Lists.range Lists.every Lists.any Lists.all Lists.keep Lists.first Lists.is_in Lists.sum_over Lists.◌else◌
+unfolding Lists.when◌then◌else◌ Lists.up_from Lists.down_from Lists.below Lists.range Lists.every Lists.any Lists.all Lists.keep Lists.first Lists.is_in Lists.sum_over Lists.◌else◌
 lists = tt
 
 unfoldable pub chart : Unit {0}

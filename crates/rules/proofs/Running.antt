@@ -10,7 +10,7 @@ use Prim.Native.Nat.{ℕ, zero, suc, ◌+◌, ◌≤◌, ◌<◌}
 use lib.IntN.{pos}
 use native.Mathlib.Omega.{arith}
 use borrow.Author.Tests.{eqb-false}
-use Rattle.rules.specs.Lists.{if◌then◌else◌, below, keep, sum_over}
+use Rattle.rules.specs.Lists.{when◌then◌else◌, below, keep, sum_over}
 use Rattle.rules.specs.Chart.{State, Segment, Chart, Block, code, states, segments, during, destination, condition, condition_action, is_one_of, children, outer, inner, from_junction, starts_at, ends_on_state}
 use Rattle.rules.specs.Image.{Image, is_active}
 use Rattle.rules.specs.Doing.{Doing, Done, give, ◌>>=◌, segment_passed, during_point}
@@ -53,7 +53,7 @@ Got c p run_abandoned im = Good c im
 
 -- what a segment that passed costs, and what running a state costs, without its children
 unfoldable pub beyond : Chart → Segment → ℕ
-beyond c t = if ends_on_state c t then 0 else sum_over (W c) (from_junction c (destination c t))
+beyond c t = when ends_on_state c t then 0 else sum_over (W c) (from_junction c (destination c t))
 
 unfoldable pub passed_cost : Chart → Segment → ℕ
 passed_cost c t = (condition_action c t).count + beyond c t
@@ -115,7 +115,7 @@ module _ (c : Chart) (rt : Right c) where
   tried t h x = omega (arith, x.weight t h)
 
   at-junction : (t : Segment) → ends_on_state c t ≡ false → sum_over (W c) (from_junction c (destination c t)) ≤ beyond c t
-  unfolding beyond if◌then◌else◌
+  unfolding beyond when◌then◌else◌
   at-junction t e = rw e (omega arith)
 
   pub going : {s : State} → s < states c → (λ im. (is_active im s ≡ true) × Good c im) ⇒ Going c s

@@ -5,7 +5,7 @@ use mathlib.Core.Bool.{Bool}
 use mathlib.Core.List.{List}
 use Prim.Native.Nat.{ℕ, ◌≤◌, ◌<◌}
 use native.Mathlib.Omega.{arith}
-use Rattle.rules.specs.Lists.{if◌then◌else◌}
+use Rattle.rules.specs.Lists.{when◌then◌else◌}
 use Rattle.rules.specs.Chart.{State, Segment, Chart, Instruction}
 use Rattle.rules.specs.Doing.{Now, went, Doing, give, refuse, ◌>>=◌, ◌>>◌, pay, Act, note}
 use Rattle.rules.specs.Block.{Stack, Delivery, SendOp, send_from, perform}
@@ -44,7 +44,7 @@ module _ {A : Type 0} where
   pub refuse-spends : (k : ℕ) → Spends (refuse {A = A} k)
   refuse-spends k = refuse-keeps Fewer k
 
-  pub if-spends : {m k : Doing A} (t : Bool) → Spends m → Spends k → Spends (if t then m else k)
+  pub if-spends : {m k : Doing A} (t : Bool) → Spends m → Spends k → Spends (when t then m else k)
   if-spends t sm sk = if-has spends t sm sk
 
 pub note-spends : (act : Act) (k : ℕ) → Spends (note act k)

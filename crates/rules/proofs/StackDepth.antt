@@ -11,7 +11,7 @@ use lib.ListN.{length, drop, length-drop}
 use lib.IntN.{ℤ, ◌+ℤ◌, ◌-ℤ◌, ◌*ℤ◌}
 use lib.Signed.{quot_z}
 use borrow.Author.Tests.{leb-true, eqb-true, lt-ltb}
-use Rattle.rules.specs.Lists.{if◌then◌else◌}
+use Rattle.rules.specs.Lists.{when◌then◌else◌}
 use Rattle.rules.specs.Chart.{Chart, stack_places, Block, Op, push, load, store, add, subtract, multiply, quotient, remainder, less, equal, not, raise, send, unknown, Instruction, code}
 use Rattle.rules.specs.Accept.{op_rule, Place, ends_at, depth_after, stack_right, stack_use_right}
 use Rattle.rules.specs.Doing.{Now, Outcome, refused, went, Doing, give, refuse, after, ◌>>=◌, ◌>>◌, look, change, pay, output_raised, note}
@@ -29,8 +29,8 @@ leaves Such (went abandoned n) = Unit {0}
 abbrev deep : ℕ → Stack → Type 0
 deep d st = length st ≡ d
 
-either : {A : Type 0} (P : A → Type 0) (t : Bool) (x y : A) → P x → P y → P (if t then x else y)
-unfolding if◌then◌else◌
+either : {A : Type 0} (P : A → Type 0) (t : Bool) (x y : A) → P x → P y → P (when t then x else y)
+unfolding when◌then◌else◌
 either P true x y p q = p
 either P false x y p q = q
 
@@ -53,7 +53,7 @@ takes-only k st = simp (length-drop, add-zero)
 
 -- k values are taken and one is given: where there is room, it is not dropped
 gives_one : (k : ℕ) (z : ℤ) (st : Stack) → leb (length st - k + 1) stack_places ≡ true → length (z onto drop k st) ≡ length st - k + 1
-unfolding ◌onto◌ if◌then◌else◌
+unfolding ◌onto◌ when◌then◌else◌
 gives_one k z st room =
     let h : length st - k + 1 ≤ stack_places = leb-true _ _ room in
     rw (lt-ltb (length (drop k st)) stack_places (simp length-drop (omega arith))) (simp length-drop (omega arith))

@@ -12,7 +12,7 @@ use lib.ListN.{length, get_or}
 use lib.IntN.{ℤ, pos, negsuc}
 use borrow.Author.Tests.{eq-eqb, ne_eqb, eqb-true, eqb-false, leb-true, ltb-true}
 use Rattle.rules.specs.Bytes.{unsigned}
-use Rattle.rules.specs.Lists.{if◌then◌else◌, up_from, down_from, below, range, within, every, all}
+use Rattle.rules.specs.Lists.{when◌then◌else◌, up_from, down_from, below, range, within, every, all}
 use Rattle.rules.specs.Chart as C
 use Rattle.rules.specs.Chart.{State, Segment, Chart, Block, Instruction, states, junctions, segments, variables, events, instructions, parent, kind, initial, entry, during, exit, destination, destination_kind, condition, condition_action, transition_action, instruction, code, is_one_of, keeps_history, ends_on_state, children, children_down, over}
 use Rattle.rules.specs.Accept as A
@@ -107,7 +107,7 @@ module _ (c : Chart) (r : Right c) where
   state-rules = every-below (state_right c) (states c) (and_left _ _ r.state_rules)
 
   pub tree : Tree c
-  unfolding counts_right state_right A.parent_right A.children_right A.initial_right if◌then◌else◌
+  unfolding counts_right state_right A.parent_right A.children_right A.initial_right when◌then◌else◌
   tree =
       record {
         some = count.0;
@@ -137,7 +137,7 @@ module _ (c : Chart) (r : Right c) where
 
   -- a segment that does not end on a state ends on a junction
   pub to-junction : (t : Segment) → t < segments c → ends_on_state c t ≡ false → destination c t < junctions c
-  unfolding A.end_right if◌then◌else◌
+  unfolding A.end_right when◌then◌else◌
   to-junction t h e =
       elim (two (eqb (destination_kind c t) 1)) [
         | inl q ↦ ltb-true _ _ (rw q at (end-right t h))
@@ -148,7 +148,7 @@ module _ (c : Chart) (r : Right c) where
 
   -- and one that does ends on one of the chart's
   pub to-state : (t : Segment) → t < segments c → ends_on_state c t ≡ true → destination c t < states c
-  unfolding A.end_right if◌then◌else◌
+  unfolding A.end_right when◌then◌else◌
   to-state t h e =
       let k = destination_kind c t in
       let other : eqb k 1 ≡ false = ne_eqb k 1 (λ q. omega (arith, eqb-true k 0 e)) in
@@ -168,7 +168,7 @@ module _ (c : Chart) (r : Right c) where
   right-at = every-below (instruction_right c) (instructions c) r.instruction_rules
 
   valid : (k : Block) → block_right c k ≡ true → Valid c k
-  unfolding code block_right is_none if◌then◌else◌
+  unfolding code block_right is_none when◌then◌else◌
   valid k e =
       record {
         operands = mem-every (has_operands c) (code c k) (λ o m.

@@ -9,7 +9,7 @@ use mathlib.Core.List.Memᴰ
 use mathlib.Core.List.{List, [], ◌∷◌}
 use Prim.Native.Nat.{ℕ, zero, suc, ◌+◌, ◌≤◌}
 use native.Mathlib.Omega.{arith}
-use Rattle.rules.specs.Lists.{if◌then◌else◌, sum_over}
+use Rattle.rules.specs.Lists.{when◌then◌else◌, sum_over}
 use Rattle.rules.specs.Chart.{State}
 use Rattle.rules.specs.Image.{Image, is_active}
 use Rattle.rules.specs.Doing.{Now, Outcome, refused, went, Doing, Done, give, done, refuse, because, after, ◌>>=◌, ◌>>◌, look, change, pay_from, pay, Act, item_of, note_in, note, each, when_active}
@@ -78,15 +78,15 @@ module _ {A B : Type 0} {b : ℕ} {P : Claim} {Q : A → Claim} where
   t-refuse k h = record { at = λ n p x l. h }
 
   pub t-if : {m k : Doing A} (t : Bool) → (t ≡ true → Triple B b P m Q) → (t ≡ false → Triple B b P k Q)
-      → Triple B b P (if t then m else k) Q
-  unfolding if◌then◌else◌
+      → Triple B b P (when t then m else k) Q
+  unfolding when◌then◌else◌
   t-if true tm tk = tm refl
   t-if false tm tk = tk refl
 
   -- by a test of the image
   pub t-test : {m k : Doing A} (f : Image → Bool) → Triple B b (λ im. (f im ≡ true) × P im) m Q
-      → Triple B b (λ im. (f im ≡ false) × P im) k Q → Triple B b P (λ n. if f n.image then m n else k n) Q
-  unfolding if◌then◌else◌
+      → Triple B b (λ im. (f im ≡ false) × P im) k Q → Triple B b P (λ n. when f n.image then m n else k n) Q
+  unfolding when◌then◌else◌
   t-test f tm tk =
       record {
         at = λ n p. elim (two (f n.image)) [ inl e ↦ rw e (tm.at n (e, p)) | inr e ↦ rw e (tk.at n (e, p)) ];

@@ -4,15 +4,15 @@ use mathlib.Core.Path.{◌≡◌, refl}
 use mathlib.Core.Bool.{Bool, true, false}
 use Prim.Native.Nat.{ℕ}
 use lib.ListN.{length}
-use Rattle.rules.specs.Lists.{if◌then◌else◌}
+use Rattle.rules.specs.Lists.{when◌then◌else◌}
 use Rattle.rules.specs.Accept.{◌unless◌next◌}
 use Rattle.rules.specs.Calls.{Board, has_part, part_refusal}
 use Rattle.rules.specs.Types.{fits_of, made_of, made_number, part_of, part_number}
 use Rattle.rules.specs.declared.headers.Header.{Header}
 
 -- an answer's number, where the first of two has 0 and the second k
-by-test : {A : Type 0} (number : A → ℕ) (a b : A) (k : ℕ) → number a ≡ 0 → number b ≡ k → (t : Bool) → number (if t then a else b) ≡ (k unless t next 0)
-unfolding ◌unless◌next◌ if◌then◌else◌
+by-test : {A : Type 0} (number : A → ℕ) (a b : A) (k : ℕ) → number a ≡ 0 → number b ≡ k → (t : Bool) → number (when t then a else b) ≡ (k unless t next 0)
+unfolding ◌unless◌next◌ when◌then◌else◌
 by-test number a b k ea eb true = ea
 by-test number a b k ea eb false = eb
 

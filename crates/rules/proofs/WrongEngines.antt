@@ -6,7 +6,7 @@ use mathlib.Core.List.{[], ◌∷◌}
 use Prim.Native.Nat.{ℕ, suc}
 use native.Mathlib.Omega.{arith}
 use Rattle.rules.specs.Bytes.{Bytes, byte}
-use Rattle.rules.specs.Lists.{if◌then◌else◌}
+use Rattle.rules.specs.Lists.{when◌then◌else◌}
 use Rattle.rules.specs.Chart.{Chart}
 use Rattle.rules.specs.Image.{not_started}
 use Rattle.rules.specs.Doing.{because}
@@ -45,7 +45,7 @@ keeps_image c board trace k e allowance =
 -- starts the chart, then only pretends to step
 pub only_starts : OfInput Answer
 only_starts c board trace k e allowance =
-    if not_started (part board k) then step_call c board trace k e allowance else keeps_image c board trace k e allowance
+    when not_started (part board k) then step_call c board trace k e allowance else keeps_image c board trace k e allowance
 
 -- invents the units, by whatever law, and is right in all else
 pub invents_units : OfInput ℕ → OfInput Answer

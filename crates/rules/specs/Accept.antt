@@ -4,7 +4,7 @@ use Rattle.std.specs.Bool.{beq}
 use Rattle.std.proofs.Math.Bool as B
 use Prim.Native.String.{String}
 use Rattle.rules.specs.Bytes.{Bytes, byte, ascii, is_zero}
-use Rattle.rules.specs.Lists.{if◌then◌else◌, below, within, every, all, is_in}
+use Rattle.rules.specs.Lists.{when◌then◌else◌, below, within, every, all, is_in}
 use Rattle.rules.specs.Chart.{State, Segment, Chart, header_size, most_states, most_variables, stack_places, Block, Op, push, load, store, add, subtract, multiply, quotient, remainder, less, equal, not, raise, send, unknown, Instruction, states, junctions, segments, variables, events, outputs, instructions, state_at, junction_at, segment_at, variable_at, instruction_at, total, parent, kind, initial, history, entry, during, exit, junction_parent, source_kind, source, destination_kind, destination, event, condition, condition_action, transition_action, instruction, code, is_one_of, children, over}
 
 -- the refusal k unless the test passes: then what follows decides
@@ -65,7 +65,7 @@ is_none k = eqb k.count 0
 
 -- a condition with instructions ends at 1, every other block at 0
 unfoldable pub ends_at : Place → Block → ℕ
-ends_at in_condition k = if is_none k then 0 else 1
+ends_at in_condition k = when is_none k then 0 else 1
 ends_at in_action k = 0
 ends_at in_sending_action k = 0
 
@@ -111,21 +111,21 @@ module _ (c : Chart) where
       ∷ every (λ i. record_right "IN" [] (instruction_at c i)) (below (instructions c)) ∷ [])
 
   unfoldable pub parent_right : State → Bool
-  parent_right s = if eqb s 0 then eqb (parent c s) 0 else ltb (parent c s) s
+  parent_right s = when eqb s 0 then eqb (parent c s) 0 else ltb (parent c s) s
 
   -- a one-of or all-of state has a child, a leaf none
   unfoldable pub children_right : State → Bool
   children_right s = beq (eqb (kind c s) 0) (eqb (length (children c s)) 0)
 
   unfoldable pub initial_right : State → Bool
-  initial_right s = if is_one_of c s then is_in (initial c s) (children c s) else eqb (initial c s) 0
+  initial_right s = when is_one_of c s then is_in (initial c s) (children c s) else eqb (initial c s) 0
 
   -- depth at most 8: the root is found that far up; history is 1 only on a one-of state
   unfoldable pub state_right : State → Bool
   state_right s =
       all
       (leb (kind c s) 2 ∷ parent_right s ∷ over c 0 s ∷ children_right s ∷ initial_right s
-      ∷ leb (history c s) (if is_one_of c s then 1 else 0) ∷ [])
+      ∷ leb (history c s) (when is_one_of c s then 1 else 0) ∷ [])
 
   unfoldable pub states_right : Bool
   states_right =
@@ -133,7 +133,7 @@ module _ (c : Chart) where
 
   -- 7: of an end's kinds the last is a junction's, the others are a state's, which is not the root
   unfoldable pub end_right : ℕ → ℕ → ℕ → Bool
-  end_right last kind n = if eqb kind last then ltb n (junctions c) else ltb kind last && ltb 0 n && ltb n (states c)
+  end_right last kind n = when eqb kind last then ltb n (junctions c) else ltb kind last && ltb 0 n && ltb n (states c)
 
   unfoldable pub segment_right : Segment → Bool
   segment_right t =
@@ -149,7 +149,7 @@ module _ (c : Chart) where
       (below (segments c))
 
   unfoldable pub block_right : Block → Bool
-  block_right k = if is_none k then eqb k.start 0 else leb (k.start + k.count) (instructions c)
+  block_right k = when is_none k then eqb k.start 0 else leb (k.start + k.count) (instructions c)
 
   unfoldable pub blocks_right : Bool
   blocks_right = every_block (λ p k. block_right k) && every is_none (entry c 0 ∷ during c 0 ∷ exit c 0 ∷ [])

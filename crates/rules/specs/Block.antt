@@ -3,7 +3,7 @@ use Rattle.std.specs.Prelude.{Bool, false, List, [], ◌∷◌, ℕ, ◌%◌, lt
 use Rattle.std.proofs.Math.Bool as B
 use Rattle.std.specs.Int.Signed.{lt_z, quot_z, rem_z}
 use Rattle.rules.specs.Bytes.{fits, equals, is_zero, truth, unsigned}
-use Rattle.rules.specs.Lists.{if◌then◌else◌}
+use Rattle.rules.specs.Lists.{when◌then◌else◌}
 use Rattle.rules.specs.Chart.{State, Chart, stack_places, Block, Op, push, load, store, add, subtract, multiply, quotient, remainder, less, equal, not, raise, send, unknown, Instruction, code}
 use Rattle.rules.specs.Image.{Image, is_active, variable, set_variable}
 use Rattle.rules.specs.Doing.{Doing, Done, give, done, refuse, ◌>>=◌, ◌>>◌, look, change, pay, output_raised, note}
@@ -30,7 +30,7 @@ lower st = get_or st 1 (pos 0)
 -- a value goes onto the stack; where all places are taken, as in no block of an accepted chart, it is dropped
 infixr 5 ◌onto◌
 unfoldable pub ◌onto◌ : ℤ → Stack → Stack
-z onto st = if ltb (length st) stack_places then z ∷ st else st
+z onto st = when ltb (length st) stack_places then z ∷ st else st
 
 -- a binary op takes lower, then top
 unfoldable pub binary : (ℤ → ℤ → ℤ) → Stack → Doing Ran
@@ -38,11 +38,11 @@ binary f st = give (ran (f (lower st) (top st) onto drop 2 st))
 
 -- the same, or 17 where the result does not fit
 unfoldable pub checked : (ℤ → ℤ → ℤ) → Stack → Doing Ran
-checked f st = if fits (f (lower st) (top st)) then binary f st else refuse 17
+checked f st = when fits (f (lower st) (top st)) then binary f st else refuse 17
 
 -- 17 where the divisor is 0
 unfoldable pub divided : Stack → Doing Ran → Doing Ran
-divided st m = if is_zero (top st) then refuse 17 else m
+divided st m = when is_zero (top st) then refuse 17 else m
 
 unfoldable pub gone : State → Image → Bool
 gone owner im = B.not (is_active im owner)
@@ -81,7 +81,7 @@ module _ (send_op : SendOp) where
   instruct equal i st = binary (λ x y. truth (equals x y)) st
   instruct not i st = give (ran (truth (is_zero (top st)) onto drop 1 st))
   instruct raise i st = note output_raised i.a >> give (ran st)
-  instruct send i st = send_op i.a (sent_to i) >>= (λ b. give (if b then abandoned else ran st))
+  instruct send i st = send_op i.a (sent_to i) >>= (λ b. give (when b then abandoned else ran st))
   instruct unknown i st = give (ran st)
 
   unfoldable pub perform : Stack → List Instruction → Doing Ran

@@ -1,6 +1,6 @@
 -- The bound of a chart, and refusals 21 to 23. Assumes nothing.
 use Rattle.std.specs.Prelude.{Bool, ◌&&◌, ◌||◌, not, List, [], ◌∷◌, ℕ, zero, suc, ◌+◌, eqb, leb}
-use Rattle.rules.specs.Lists.{if◌then◌else◌, below, every, any, keep, is_in, sum_over}
+use Rattle.rules.specs.Lists.{when◌then◌else◌, below, every, any, keep, is_in, sum_over}
 use Rattle.rules.specs.Chart.{Junction, Segment, Chart, states, junctions, segments, instructions, entry, during, exit, destination, condition, condition_action, transition_action, instruction, outer, inner, from_junction, ends_on_state}
 use Rattle.rules.specs.Accept.{is_send, ◌unless◌next◌}
 use Rattle.rules.specs.Doing.{most_units}
@@ -11,7 +11,7 @@ module _ (c : Chart) where
   WWithin zero t = 0
   WWithin (suc n) t =
       1 + (condition c t).count + (condition_action c t).count
-      + (if ends_on_state c t then 0 else sum_over (λ u. WWithin n u) (from_junction c (destination c t)))
+      + (when ends_on_state c t then 0 else sum_over (λ u. WWithin n u) (from_junction c (destination c t)))
 
   -- a way without a loop has at most one segment more than there are junctions
   unfoldable pub W : Segment → ℕ

@@ -5,7 +5,7 @@ use Prim.Native.String.{String, [] as no_text, ◌∷◌ as ◌in-front-of◌}
 use Rattle.std.proofs.lemmas.List.Edits.{sets}
 use Rattle.std.proofs.Math.IntN.{sub_ℕ}
 use Rattle.std.specs.Int.Signed.{mag}
-use Rattle.rules.specs.Lists.{if◌then◌else◌}
+use Rattle.rules.specs.Lists.{when◌then◌else◌}
 
 abbrev pub Bytes : Type 0
 Bytes = List ℕ
@@ -34,7 +34,7 @@ put w b i n = sets b i (bytes_of w n)
 
 -- the signed value of a number of w bytes, and back
 unfoldable pub signed : ℕ → ℕ → ℤ
-signed w n = if ltb n (2 ^ (8 * w - 1)) then pos n else sub_ℕ n (2 ^ (8 * w))
+signed w n = when ltb n (2 ^ (8 * w - 1)) then pos n else sub_ℕ n (2 ^ (8 * w))
 
 unfoldable pub unsigned : ℕ → ℤ → ℕ
 unsigned w (pos n) = n
@@ -45,10 +45,10 @@ abbrev pub bit : ℕ → ℕ → Bool
 bit b k = eqb (b / 2 ^ k % 2) 1
 
 abbrev pub bit_on : ℕ → ℕ → ℕ
-bit_on b k = if bit b k then b else b + 2 ^ k
+bit_on b k = when bit b k then b else b + 2 ^ k
 
 abbrev pub bit_off : ℕ → ℕ → ℕ
-bit_off b k = if bit b k then b - 2 ^ k else b
+bit_off b k = when bit b k then b - 2 ^ k else b
 
 -- a signed 32-bit value; two that are equal; 0; 1 if so, else 0
 unfoldable pub fits : ℤ → Bool

@@ -1,7 +1,7 @@
 -- The chart's bytes: tables, records, fields, and what these say of states, junctions and segments. Assumes nothing.
 use Rattle.std.specs.Prelude.{Bool, ◌&&◌, List, [], ◌∷◌, map, ℕ, zero, suc, ◌+◌, ◌-◌, ◌*◌, eqb, get_or, ℤ}
 use Rattle.rules.specs.Bytes.{Bytes, byte, field, signed}
-use Rattle.rules.specs.Lists.{if◌then◌else◌, up_from, down_from, below, range, keep, is_in}
+use Rattle.rules.specs.Lists.{when◌then◌else◌, up_from, down_from, below, range, keep, is_in}
 
 -- numbers of states, junctions and segments: told apart by name here, by type in the code
 abbrev pub State : Type 0
@@ -194,7 +194,7 @@ module _ (c : Chart) where
   -- s, its parent and so on, the root last: at most n above s
   unfoldable pub lineage : ℕ → State → List State
   lineage zero s = s ∷ []
-  lineage (suc n) s = s ∷ (if eqb s 0 then [] else lineage n (parent s))
+  lineage (suc n) s = s ∷ (when eqb s 0 then [] else lineage n (parent s))
 
   -- a is s, or is above s
   unfoldable pub over : State → State → Bool

@@ -1,7 +1,7 @@
 -- Charts for the cases, written by their records. Assumes nothing.
 use Rattle.std.specs.Prelude.{[], ◌∷◌, ◌++◌, ℕ, zero, suc, ◌+◌, leb, take, set}
 use Rattle.rules.specs.Bytes.{Bytes, bytes_of, ascii}
-use Rattle.rules.specs.Lists.{if◌then◌else◌}
+use Rattle.rules.specs.Lists.{when◌then◌else◌}
 use Rattle.rules.specs.Chart.{Chart, Block, state_at, junction_at, segment_at, instruction_at}
 
 -- ── records ──
@@ -383,12 +383,12 @@ faultless =
 -- (5), a byte is too many (4), there are 33 outputs (3), the mark is wrong (2), the chart is short (1)
 unfoldable pub faults_from : ℕ → Chart
 faults_from k =
-    let fault : ℕ → ℕ → ℕ → Chart → Chart = λ n i v c. if leb k n then set c i v else c in
+    let fault : ℕ → ℕ → ℕ → Chart → Chart = λ n i v c. when leb k n then set c i v else c in
     let sound = fault 11 (instruction_at faultless 0 + 2) 12 (fault 10 (state_at faultless 1 + 14) 1 faultless) in
     let wrong = fault 9 (instruction_at faultless 3 + 2) 13 (fault 8 (state_at faultless 1 + 9) 1 sound) in
     let worse = fault 7 (segment_at faultless 0 + 6) 2 (fault 6 (state_at faultless 1 + 5) 1 (fault 5 (state_at faultless 1 + 15) 1 wrong)) in
-    let worst = fault 3 8 33 (fault 2 0 0 (if leb k 4 then worse ++ (0 ∷ []) else worse)) in
-    (if leb k 1 then take 11 worst else worst)
+    let worst = fault 3 8 33 (fault 2 0 0 (when leb k 4 then worse ++ (0 ∷ []) else worse)) in
+    (when leb k 1 then take 11 worst else worst)
 
 -- n pushes, then n stores, as an entry action
 unfoldable pub piles : ℕ → Chart

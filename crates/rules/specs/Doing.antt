@@ -1,6 +1,6 @@
 -- Doing: what goes on or is refused, with the image, the units and the room left, the items so far. Assumes nothing.
 use Rattle.std.specs.Prelude.{List, [], ◌∷◌, ◌++◌, ℕ, zero, suc, ◌+◌, ◌*◌, ◌/◌, min}
-use Rattle.rules.specs.Lists.{if◌then◌else◌}
+use Rattle.rules.specs.Lists.{when◌then◌else◌}
 use Rattle.rules.specs.Chart.{State}
 use Rattle.rules.specs.Image.{Image, is_active}
 
@@ -102,4 +102,4 @@ each f [] = done
 each f (x ∷ xs) = f x >> each f xs
 
 unfoldable pub when_active : State → Done → Done
-when_active s m = λ n. if is_active n.image s then m n else done n
+when_active s m = λ n. when is_active n.image s then m n else done n

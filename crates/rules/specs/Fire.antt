@@ -1,6 +1,6 @@
 -- Leaving, entering, and firing a path. Assumes nothing.
 use Rattle.std.specs.Prelude.{◌&&◌, not, List, [], ◌∷◌, map, ℕ, zero, suc, ◌+◌, eqb}
-use Rattle.rules.specs.Lists.{if◌then◌else◌, every, keep, first, ◌else◌}
+use Rattle.rules.specs.Lists.{when◌then◌else◌, every, keep, first, ◌else◌}
 use Rattle.rules.specs.Chart.{State, Segment, Chart, deepest, parent, initial, entry, exit, junction_parent, destination, ends_on_state, transition_action, is_one_of, keeps_history, children, children_down, lineage, over}
 use Rattle.rules.specs.Image.{Image, recorded, activate, deactivate, record_child}
 use Rattle.rules.specs.Doing.{Done, done, ◌>>=◌, ◌>>◌, look, change, pay, state_entered, state_left, transition_performed, note, each, when_active}
@@ -17,7 +17,7 @@ module _ (c : Chart) where
 
   -- a history parent records s
   unfoldable pub parent_records : State → Done
-  parent_records s = if keeps_history c (parent c s) then change (λ im. record_child im (parent c s) s) else done
+  parent_records s = when keeps_history c (parent c s) then change (λ im. record_child im (parent c s) s) else done
 
   unfoldable pub leave : ℕ → State → Done
   leave zero s = done  -- no accepted chart comes here
@@ -36,7 +36,7 @@ module _ (c : Chart) where
   -- the children of s to be entered: of a one-of state one, else each
   unfoldable pub to_enter : State → State → Image → List State
   to_enter s target im =
-      if is_one_of c s then (on_the_way s target else recorded im s else initial c s) ∷ [] else children c s
+      when is_one_of c s then (on_the_way s target else recorded im s else initial c s) ∷ [] else children c s
 
   unfoldable pub enter_each : (State → Done) → State → State → Done
   enter_each f target s = look >>= (λ im. each f (to_enter s target im))
@@ -61,7 +61,7 @@ module _ (c : Chart) where
 
   unfoldable pub arena : State → State → List Segment → State
   arena source target path =
-      if eqb source target && eqb source (common source target path) then parent c source else common source target path
+      when eqb source target && eqb source (common source target path) then parent c source else common source target path
 
   unfoldable pub transit : Segment → Done
   transit t = note transition_performed t >> action c (transition_action c t)

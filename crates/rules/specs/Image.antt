@@ -1,7 +1,7 @@
 -- One lift's image: its fields, when it is accepted, and the fresh image. Assumes nothing.
 use Rattle.std.specs.Prelude.{Bool, ◌&&◌, ◌||◌, not, [], ◌∷◌, ◌++◌, ℕ, zero, suc, ◌+◌, ◌-◌, ◌*◌, ◌/◌, ◌%◌, eqb, length, set, replicate, ℤ}
 use Rattle.rules.specs.Bytes.{Bytes, byte, field, put, bytes_of, signed, unsigned, bit, bit_on, bit_off, ascii}
-use Rattle.rules.specs.Lists.{if◌then◌else◌, below, range, every, all, keep, is_in}
+use Rattle.rules.specs.Lists.{when◌then◌else◌, below, range, every, all, keep, is_in}
 use Rattle.rules.specs.Chart.{State, Chart, most_states, most_variables, states, variables, initial_value, is_one_of, keeps_history, children}
 use Rattle.rules.specs.Accept.{marked, zero_at}
 
@@ -63,7 +63,7 @@ module _ (im : Image) where
     unfoldable pub shape_at : State → Bool
     shape_at s =
         eqb (length (keep is_active (children c s)))
-        (if is_active s then (if is_one_of c s then 1 else length (children c s)) else 0)
+        (when is_active s then (when is_one_of c s then 1 else length (children c s)) else 0)
 
     unfoldable pub shape : Bool
     shape = is_active 0 && every shape_at (below (states c))

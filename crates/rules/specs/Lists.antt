@@ -1,10 +1,10 @@
 -- Lists of numbers, tests over them, and the choice by a test. Assumes nothing.
 use Rattle.std.specs.Prelude.{Bool, true, false, ◌&&◌, ◌||◌, List, [], ◌∷◌, ℕ, zero, suc, ◌+◌, ◌-◌, eqb, leb}
 
-infix 5 if◌then◌else◌
-unfoldable pub if◌then◌else◌ : {A : Type 0} → Bool → A → A → A
-if true then x else y = x
-if false then x else y = y
+infix 5 when◌then◌else◌
+unfoldable pub when◌then◌else◌ : {A : Type 0} → Bool → A → A → A
+when true then x else y = x
+when false then x else y = y
 
 -- a, a + 1, .. : n numbers
 unfoldable pub up_from : ℕ → ℕ → List ℕ
@@ -42,12 +42,12 @@ all ts = every (λ t. t) ts
 
 unfoldable pub keep : {A : Type 0} → (A → Bool) → List A → List A
 keep f [] = []
-keep f (x ∷ xs) = if f x then x ∷ keep f xs else keep f xs
+keep f (x ∷ xs) = when f x then x ∷ keep f xs else keep f xs
 
 -- the first that passes, and 0 if none does
 unfoldable pub first : (ℕ → Bool) → List ℕ → ℕ
 first f [] = 0
-first f (x ∷ xs) = if f x then x else first f xs
+first f (x ∷ xs) = when f x then x else first f xs
 
 unfoldable pub is_in : ℕ → List ℕ → Bool
 is_in n xs = any (eqb n) xs

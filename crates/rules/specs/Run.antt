@@ -1,6 +1,6 @@
 -- A state is run, an event is sent, a step goes. Assumes nothing.
 use Rattle.std.specs.Prelude.{[], ℕ, zero, suc, eqb}
-use Rattle.rules.specs.Lists.{if◌then◌else◌, first}
+use Rattle.rules.specs.Lists.{when◌then◌else◌, first}
 use Rattle.rules.specs.Chart.{State, Chart, during, is_one_of, children, outer, inner, code}
 use Rattle.rules.specs.Image.{is_active, not_started}
 use Rattle.rules.specs.Doing.{Done, done, refuse, ◌>>=◌, ◌>>◌, look, pay, during_point, note, each, when_active}
@@ -21,11 +21,11 @@ module _ (c : Chart) where
   run_active f p = do
     im ← look
     let s = first (is_active im) (children c p)
-    (if eqb s 0 then done else f s)
+    (when eqb s 0 then done else f s)
 
   -- of an all-of state each child that is active at its turn
   unfoldable pub run_children : (State → Done) → State → Done
-  run_children f p = if is_one_of c p then run_active f p else each (λ s. when_active s (f s)) (children c p)
+  run_children f p = when is_one_of c p then run_active f p else each (λ s. when_active s (f s)) (children c p)
 
   module _ (deliver : Delivery) (e : ℕ) where
     -- after the during action: inner segments, then the children
@@ -55,4 +55,4 @@ module _ (c : Chart) where
   start = enter c levels 0 0
 
   unfoldable pub step : ℕ → Done
-  step e = λ n. if not_started n.image then start n else run (send 8) e levels 0 n
+  step e = λ n. when not_started n.image then start n else run (send 8) e levels 0 n

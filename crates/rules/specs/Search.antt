@@ -1,7 +1,7 @@
 -- The search along segments and junctions for a state. Assumes nothing.
 use Rattle.std.specs.Prelude.{Bool, true, false, ◌||◌, not, List, [], ◌∷◌, ◌++◌, ℕ, zero, suc, eqb, length}
 use Rattle.rules.specs.Bytes.{is_zero}
-use Rattle.rules.specs.Lists.{if◌then◌else◌}
+use Rattle.rules.specs.Lists.{when◌then◌else◌}
 use Rattle.rules.specs.Chart.{State, Segment, Chart, event, condition, condition_action, destination, ends_on_state, from_junction, code}
 use Rattle.rules.specs.Accept.{is_none}
 use Rattle.rules.specs.Doing.{Doing, give, refuse, ◌>>=◌, ◌>>◌, pay, segment_passed, note}
@@ -27,11 +27,11 @@ or_next run_abandoned m = give run_abandoned
 module _ (c : Chart) where
   -- an empty condition holds
   unfoldable pub holds : Segment → Doing Bool
-  holds t = if is_none (condition c t) then give true else (value c (condition c t) >>= (λ z. give (not (is_zero z))))
+  holds t = when is_none (condition c t) then give true else (value c (condition c t) >>= (λ z. give (not (is_zero z))))
 
   -- the event is 0 or the current event, and the condition, performed only then, is non-zero
   unfoldable pub passes : ℕ → Segment → Doing Bool
-  passes e t = if eqb (event c t) 0 || eqb (event c t) e then holds t else give false
+  passes e t = when eqb (event c t) 0 || eqb (event c t) e then holds t else give false
 
   module _ (deliver : Delivery) (e : ℕ) (source : State) where
     -- a list of segments is tried in order; f says how a segment that passes goes on
@@ -40,7 +40,7 @@ module _ (c : Chart) where
     tries f (t ∷ ts) = do
       pay
       b ← passes e t
-      o ← (if b then f t else give nowhere)
+      o ← (when b then f t else give nowhere)
       or_next o (tries f ts)
 
     -- segment t passes, after path, with n segments more on it at most, t among them
@@ -50,8 +50,8 @@ module _ (c : Chart) where
       note segment_passed t
       r ← perform (send_from source deliver) [] (code c (condition_action c t))
       unless_abandoned r run_abandoned (λ _.
-          if ends_on_state c t then give (reached (destination c t) (path ++ (t ∷ [])))
-          else if eqb (length (from_junction c (destination c t))) 0 then give ended
+          when ends_on_state c t then give (reached (destination c t) (path ++ (t ∷ [])))
+          else when eqb (length (from_junction c (destination c t))) 0 then give ended
           else tries (passed n (path ++ (t ∷ []))) (from_junction c (destination c t)))
 
     unfoldable pub search : List Segment → Doing Found

@@ -10,7 +10,7 @@ use Prim.Native.Nat.{ℕ, zero, suc, ◌+◌, ◌<◌}
 use native.Mathlib.Omega.{arith}
 use lib.Dec.{eqb}
 use borrow.Author.Tests.{ne_eqb}
-use Rattle.rules.specs.Lists.{if◌then◌else◌, every, first}
+use Rattle.rules.specs.Lists.{when◌then◌else◌, every, first}
 use Rattle.rules.specs.Chart as C
 use Rattle.rules.specs.Accept.{is_send, op_rule}
 use Rattle.rules.specs.Chart.{State, Segment, Chart, Op, Instruction, states, segments, entry, during, exit, transition_action, is_one_of, children, outer, inner, code}
@@ -236,12 +236,12 @@ module _ (c : Chart) (rt : Right c) where
   here i is v = both (has_operands c i) _ v
 
   start-goes : (e : ℕ) {n n' : Now} → not_started n.image ≡ true → Goes (enter c levels 0 0) n n' → Goes (step c e) n n'
-  unfolding step start if◌then◌else◌
+  unfolding step start when◌then◌else◌
   start-goes e s w = record { is = rw s w.is }
 
   step-goes : (e : ℕ) {n n' : Now} → not_started n.image ≡ false → Goes (run c (send c 8) e levels 0) n n'
       → Goes (step c e) n n'
-  unfolding step if◌then◌else◌
+  unfolding step when◌then◌else◌
   step-goes e s w = record { is = rw s w.is }
 
   sends : (o : Op) → o ≡ C.send → is_send o ≡ true

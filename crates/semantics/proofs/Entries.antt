@@ -7,7 +7,7 @@ use mathlib.Core.List.Memᴰ
 use mathlib.Core.List.{List, [], ◌∷◌}
 use Prim.Native.Nat.{ℕ, zero, suc, ◌+◌, ◌<◌}
 use native.Mathlib.Omega.{arith}
-use Rattle.rules.specs.Lists.{if◌then◌else◌, ◌else◌}
+use Rattle.rules.specs.Lists.{when◌then◌else◌, ◌else◌}
 use Rattle.rules.specs.Chart.{State, Chart, states, initial, entry, is_one_of, keeps_history, children}
 use Rattle.rules.specs.Image.{Image, recorded, activate}
 use Rattle.rules.specs.Doing.{Now, Done, change, pay, state_entered, note, each}
@@ -47,22 +47,22 @@ module _ (c : Chart) (f : State → Done) (h p : State) where
 
   one-goes : (s : State) {m m' : Now} → is_one_of c p ≡ true → (on_the_way c p h else recorded m.image p else initial c p) ≡ s
       → Goes (f s) m m' → Goes (enter_each c f h p) m m'
-  unfolding to_enter if◌then◌else◌
+  unfolding to_enter when◌then◌else◌
   one-goes s o e w = entered-goes (rw (o, e) (more-goes f s [] w (none-goes f)))
 
   one-inv : {m m' : Now} → is_one_of c p ≡ true → Goes (enter_each c f h p) m m'
       → Goes (f (on_the_way c p h else recorded m.image p else initial c p)) m m'
-  unfolding to_enter if◌then◌else◌
+  unfolding to_enter when◌then◌else◌
   one-inv {m} {m'} o w =
       let b = more-inv f _ [] (rw o at (entered-inv w)) in
       rw (sym (none-inv f b.behind)) b.before
 
   pub all-goes : {m m' : Now} → is_one_of c p ≡ false → Goes (each f (children c p)) m m' → Goes (enter_each c f h p) m m'
-  unfolding to_enter if◌then◌else◌
+  unfolding to_enter when◌then◌else◌
   all-goes o w = entered-goes (rw o w)
 
   all-inv : {m m' : Now} → is_one_of c p ≡ false → Goes (enter_each c f h p) m m' → Goes (each f (children c p)) m m'
-  unfolding to_enter if◌then◌else◌
+  unfolding to_enter when◌then◌else◌
   all-inv o w = rw o at (entered-inv w)
 
   pub enO1-goes : {k : State} {m m' : Now} → is_one_of c p ≡ true → on_the_way c p h ≡ k → 0 < k → Goes (f k) m m'

@@ -11,7 +11,7 @@ use Prim.Native.Nat.{ℕ, zero, suc, ◌+◌, ◌/◌, ◌≤◌, ◌<◌}
 use native.Mathlib.Decide.{ℕ_discrete}
 use native.Mathlib.Omega.{arith}
 use lib.Seq.{get_or-set_other, set_comm}
-use Rattle.rules.specs.Lists.{if◌then◌else◌}
+use Rattle.rules.specs.Lists.{when◌then◌else◌}
 use Rattle.rules.specs.Chart.{State, Chart, states, parent, exit, is_one_of, keeps_history, children, children_down}
 use Rattle.rules.specs.Image.{Image, is_active, deactivate, record_child}
 use Rattle.rules.specs.Doing.{Now, Done, done, give, ◌>>◌, change, pay, Act, state_left, note, each, when_active}
@@ -53,7 +53,7 @@ module _ (c : Chart) where
 
   -- the record before or after that
   record-last : (s : State) → s < 64 → (n : Now) → (parent_records c s >> off s) n ≡ (off s >> parent_records c s) n
-  unfolding parent_records change done give if◌then◌else◌
+  unfolding parent_records change done give when◌then◌else◌
   record-last s h n =
       elim (two (keeps_history c (parent c s))) [
         | inl e ↦ rw e (last _ _ state_left s n.image n.units n.room n.trace (swapped n.image (parent c s) s h))

@@ -8,7 +8,7 @@ use native.Mathlib.Omega.{arith}
 use lib.Dec.{eqb}
 use borrow.Author.Tests.{ne_eqb}
 use lib.ListN.{length}
-use Rattle.rules.specs.Lists.{if◌then◌else◌}
+use Rattle.rules.specs.Lists.{when◌then◌else◌}
 use Rattle.rules.specs.Chart.{State, Segment, Chart, segments, condition_action, destination, ends_on_state, from_junction, code}
 use Rattle.rules.specs.Image.{Image}
 use Rattle.rules.specs.Doing.{Now, Doing, give, pay, segment_passed, note}
@@ -55,20 +55,20 @@ module _ (c : Chart) (k e : ℕ) (p : State) where
   -- what follows a condition action
   abbrev Onward : ℕ → List Segment → Segment → Doing Found
   Onward m path t =
-      if ends_on_state c t then give (reached (destination c t) (path ++ (t ∷ [])))
-      else if eqb (length (from_junction c (destination c t))) 0 then give ended
+      when ends_on_state c t then give (reached (destination c t) (path ++ (t ∷ [])))
+      else when eqb (length (from_junction c (destination c t))) 0 then give ended
       else Tried c k e p m (path ++ (t ∷ [])) (from_junction c (destination c t))
 
   module _ (m : ℕ) (path ts : List Segment) (t : Segment) {n n₁ : Now} (pd : Goes pay n n₁) where
     pub fail-goes : {n₂ n₃ : Now} {o : Found} → Gives (passes c e t) n₁ false n₂ → Gives (Tried c k e p m path ts) n₂ o n₃
         → Gives (Tried c k e p m path (t ∷ ts)) n o n₃
-    unfolding tries if◌then◌else◌ or_next
+    unfolding tries when◌then◌else◌ or_next
     fail-goes x y = then-goes pd (bind_goes _ x (bind_goes _ give-goes y))
 
     try-goes : {n₂ n₃ n₄ : Now} (o₁ : Found) {o : Found} → Gives (passes c e t) n₁ true n₂
         → Gives (passed c (send c k) e p m path t) n₂ o₁ n₃ → Gives (or_next o₁ (Tried c k e p m path ts)) n₃ o n₄
         → Gives (Tried c k e p m path (t ∷ ts)) n o n₄
-    unfolding tries if◌then◌else◌
+    unfolding tries when◌then◌else◌
     try-goes o₁ x y z = then-goes pd (bind_goes _ x (bind_goes _ y z))
 
   passed-goes : (m : ℕ) (path : List Segment) (t : Segment) (how : Ran) {n₁ n₂ n₃ n₄ : Now} {o : Found}
@@ -102,7 +102,7 @@ module _ (c : Chart) (k e : ℕ) (p : State) where
   -- a junction's own list
   own-goes : (m l : ℕ) (path ts : List Segment) {n n' : Now} (o : Found) → length path ≡ l → m + l ≡ 128 → Ways c path ts
       → Going c p n.image → Finds c k e p l ts n n' o
-      → Gives (if eqb (length ts) 0 then give ended else Tried c k e p m path ts) n (along path o) n'
+      → Gives (when eqb (length ts) 0 then give ended else Tried c k e p m path ts) n (along path o) n'
   own-goes m l path [] o z q ways g (a, b) = yes-goes _ _ _ refl (rw (a, b) give-goes)
   own-goes m l path (t ∷ ts) o z q ways g x = no-goes _ _ _ (ne_eqb (length (t ∷ ts)) 0 (λ z. omega arith)) (x m path z q ways g)
 

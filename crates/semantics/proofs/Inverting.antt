@@ -6,7 +6,7 @@ use mathlib.Core.Bool.{Bool, true, false}
 use mathlib.Core.List.{List, [], ◌∷◌}
 use Prim.Native.Nat.{ℕ}
 use native.Mathlib.Omega.{arith}
-use Rattle.rules.specs.Lists.{if◌then◌else◌}
+use Rattle.rules.specs.Lists.{when◌then◌else◌}
 use Rattle.rules.specs.Chart.{State}
 use Rattle.rules.specs.Image.{Image, is_active}
 use Rattle.rules.specs.Doing.{Refusal, Now, Outcome, refused, went, Doing, Done, give, done, refuse, after, ◌>>=◌, ◌>>◌, look, pay, Act, note, each, when_active}
@@ -92,37 +92,37 @@ unfolding look
 look-goes = record { is = refl }
 
 -- one of two
-pub choose-inv : {A : Type 0} (b : Bool) (x y : Doing A) {a : A} {n n' : Now} → Gives (if b then x else y) n a n'
+pub choose-inv : {A : Type 0} (b : Bool) (x y : Doing A) {a : A} {n n' : Now} → Gives (when b then x else y) n a n'
     → ((b ≡ true) × Gives x n a n') ⊎ ((b ≡ false) × Gives y n a n')
-unfolding if◌then◌else◌
+unfolding when◌then◌else◌
 choose-inv true x y w = inl (refl, w)
 choose-inv false x y w = inr (refl, w)
 
 pub yes-goes : {A : Type 0} (b : Bool) (x y : Doing A) {a : A} {n n' : Now} → b ≡ true → Gives x n a n'
-    → Gives (if b then x else y) n a n'
-unfolding if◌then◌else◌
+    → Gives (when b then x else y) n a n'
+unfolding when◌then◌else◌
 yes-goes b x y e w = rw e w
 
 pub no-goes : {A : Type 0} (b : Bool) (x y : Doing A) {a : A} {n n' : Now} → b ≡ false → Gives y n a n'
-    → Gives (if b then x else y) n a n'
-unfolding if◌then◌else◌
+    → Gives (when b then x else y) n a n'
+unfolding when◌then◌else◌
 no-goes b x y e w = rw e w
 
 module _ (s : State) (m : Done) {n n' : Now} where
   pub active-inv : is_active n.image s ≡ true → Goes (when_active s m) n n' → Goes m n n'
-  unfolding when_active if◌then◌else◌
+  unfolding when_active when◌then◌else◌
   active-inv e w = record { is = rw e at w.is }
 
   pub idle-inv : is_active n.image s ≡ false → Goes (when_active s m) n n' → n ≡ n'
-  unfolding when_active if◌then◌else◌
+  unfolding when_active when◌then◌else◌
   idle-inv e w = done-inv (record { is = rw e at w.is })
 
   pub active-goes : is_active n.image s ≡ true → Goes m n n' → Goes (when_active s m) n n'
-  unfolding when_active if◌then◌else◌
+  unfolding when_active when◌then◌else◌
   active-goes e w = record { is = rw e w.is }
 
 pub idle-goes : (s : State) (m : Done) {n : Now} → is_active n.image s ≡ false → Goes (when_active s m) n n
-unfolding when_active if◌then◌else◌
+unfolding when_active when◌then◌else◌
 idle-goes s m e = record { is = rw e done-goes.is }
 
 -- each of a list

@@ -10,7 +10,7 @@ use native.Mathlib.Omega.{arith}
 use lib.Dec.{eqb}
 use borrow.Author.Tests.{eqb-true, eqb-false, eq-eqb, ne_eqb}
 use lib.ListN.{length, length-append}
-use Rattle.rules.specs.Lists.{if◌then◌else◌}
+use Rattle.rules.specs.Lists.{when◌then◌else◌}
 use Rattle.rules.specs.Chart.{State, Segment, Chart, states, segments, event, condition_action, destination, ends_on_state, from_junction, code}
 use Rattle.rules.specs.Doing.{Now, Doing, give, pay, segment_passed, note}
 use Rattle.rules.specs.Block.{Ran, ran, abandoned, unless_abandoned}
@@ -158,11 +158,11 @@ module _ (c : Chart) (rt : Right c) (k e : ℕ) (p : State) (h : p < states c) w
         → ((n₂ n₃ : Now) (o : Found) → Gives (passes c e t) n₁ true n₂ → Gives (passed c (send c k) e p m path t) n₂ o n₃
         → Along path (Onward l t n₁ n₃) o)
         → (b : Bool) {n₂ n₃ n₄ : Now} {o₁ o : Found} → Gives (passes c e t) n₁ b n₂
-        → Gives (if b then passed c (send c k) e p m path t else give nowhere) n₂ o₁ n₃
+        → Gives (when b then passed c (send c k) e p m path t else give nowhere) n₂ o₁ n₃
         → Gives (or_next o₁ (Tried c k e p m path ts)) n₃ o n₄
         → (Going c p n₃.image → Gives (Tried c k e p m path ts) n₃ o n₄ → Along path (Gone c k e p l ts n₃ n₄) o)
         → Along path (λ o'. c ⊢ ⇝tl k e p l (t ∷ ts) n n₄ o') o
-    unfolding or_next if◌then◌else◌
+    unfolding or_next when◌then◌else◌
     tried m l path ts t way pd g ways true {n₃ = n₃} x y w rest =
         let g₂ = kept (t-passes c rt p e t way.real) x g in
         let (o', a, u) = ways _ _ _ x y in
@@ -192,7 +192,7 @@ module _ (c : Chart) (rt : Right c) (k e : ℕ) (p : State) (h : p < states c) w
 
     -- a junction's own list
     junction : (l : ℕ) (path ts : List Segment) (m : Doing Found) {n n' : Now} {o : Found}
-        → Gives (if eqb (length ts) 0 then give ended else m) n o n' → (Gives m n o n' → Along path (Gone c k e p l ts n n') o)
+        → Gives (when eqb (length ts) 0 then give ended else m) n o n' → (Gives m n o n' → Along path (Gone c k e p l ts n n') o)
         → Along path (λ o'. c ⊢ ⇝tl k e p l ts n n' o') o
     junction l path [] m w f =
         elim (choose-inv _ _ _ w) [
@@ -206,8 +206,8 @@ module _ (c : Chart) (rt : Right c) (k e : ℕ) (p : State) (h : p < states c) w
     ran-or-not : (l : ℕ) (path : List Segment) (t : Segment) (r : Ran) (m : Doing Found) {n n₁ n₂ n₃ n₄ : Now} {o : Found}
         → Gives (passes c e t) n true n₁ → l < 128 → Goes (note segment_passed t) n₁ n₂
         → c ⊢ ⇝a k p [] (code c (condition_action c t)) n₂ n₃ r
-        → Gives (unless_abandoned r run_abandoned (λ _. if ends_on_state c t then give (reached (destination c t) (path ++ (t ∷ [])))
-        else if eqb (length (from_junction c (destination c t))) 0 then give ended else m)) n₃ o n₄ → How (Going c p) (Good c) r n₃.image
+        → Gives (unless_abandoned r run_abandoned (λ _. when ends_on_state c t then give (reached (destination c t) (path ++ (t ∷ [])))
+        else when eqb (length (from_junction c (destination c t))) 0 then give ended else m)) n₃ o n₄ → How (Going c p) (Good c) r n₃.image
         → (ends_on_state c t ≡ false → Going c p n₃.image → Gives m n₃ o n₄
         → Along (path ++ (t ∷ [])) (Gone c k e p (l + 1) (from_junction c (destination c t)) n₃ n₄) o)
         → Along path (Onward l t n n₄) o

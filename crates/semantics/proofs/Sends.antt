@@ -6,7 +6,7 @@ use mathlib.Core.Bool.{true, false}
 use mathlib.Core.List.{List}
 use Prim.Native.Nat.{ℕ, zero, suc, ◌<◌}
 use lib.IntN.{pos}
-use Rattle.rules.specs.Lists.{if◌then◌else◌, every}
+use Rattle.rules.specs.Lists.{when◌then◌else◌, every}
 use Rattle.rules.specs.Chart as C
 use Rattle.rules.specs.Chart.{State, Chart, Op, Instruction, states}
 use Rattle.rules.specs.Accept.{is_send, op_rule, operands_right}
@@ -51,12 +51,12 @@ kind-of i s₁ s₂ st C.unknown = is_plain {o = C.unknown} refl refl
 
 -- 002's flag of early return is that the owner is gone
 flag : (p : State) (st : Stack) (im : Image)
-    → (if gone p im then abandoned else ran st) ≡ (if is_active im p then ran st else abandoned)
-unfolding gone if◌then◌else◌
+    → (when gone p im then abandoned else ran st) ≡ (when is_active im p then ran st else abandoned)
+unfolding gone when◌then◌else◌
 flag p st im = elim (two (is_active im p)) [ inl e ↦ rw e | inr e ↦ rw e ]
 
-there : (p : State) (st : Stack) (im : Image) → is_active im p ≡ true → (if is_active im p then ran st else abandoned) ≡ ran st
-unfolding if◌then◌else◌
+there : (p : State) (st : Stack) (im : Image) → is_active im p ≡ true → (when is_active im p then ran st else abandoned) ≡ ran st
+unfolding when◌then◌else◌
 there p st im e = rw e
 
 -- what a send comes to, with k more to open
@@ -108,13 +108,13 @@ module _ (c : Chart) (rt : Right c) where
     Performs st is n r n' = Gives (perform (send_from p (send c k)) st is) n r n'
 
     does-send : (i : Instruction) (st : Stack) {b : State} {n n' : Now} → sent_to i ≡ b
-        → Goes (send c k i.a b) n n' → Does i st C.send n (if is_active n'.image p then ran st else abandoned) n'
+        → Goes (send c k i.a b) n n' → Does i st C.send n (when is_active n'.image p then ran st else abandoned) n'
     unfolding instruct send_from
     does-send i st {n' = n'} e w =
         rw (e, ← flag p st n'.image) (bind_goes _ (then-goes w (bind_goes _ look-goes give-goes)) give-goes)
 
     did-send : (i : Instruction) (st : Stack) {b : State} {n n' : Now} {r : Ran} → sent_to i ≡ b
-        → Does i st C.send n r n' → Goes (send c k i.a b) n n' × ((if is_active n'.image p then ran st else abandoned) ≡ r)
+        → Does i st C.send n r n' → Goes (send c k i.a b) n n' × ((when is_active n'.image p then ran st else abandoned) ≡ r)
     unfolding instruct send_from
     did-send i st {n = n} {n' = n'} {r = r} e w =
         let b₁ = bind_inv _ _ w in
@@ -124,7 +124,7 @@ module _ (c : Chart) (rt : Right c) where
         let (u, v) = give-inv b₃.behind in
         let (s, t) = give-inv b₁.behind in
         let m : b₂.mid ≡ n' = cc in
-        let g : (if gone p n'.image then abandoned else ran st) ≡ r = cc in
+        let g : (when gone p n'.image then abandoned else ran st) ≡ r = cc in
         let to = sent_to i in
         let x = subst (λ (y : Now). Goes (send c k i.a to) n y) m b₂.before in
         (subst (λ (s : State). Goes (send c k i.a s) n n') e x, sym (flag p st n'.image) ∙ g)
@@ -132,7 +132,7 @@ module _ (c : Chart) (rt : Right c) where
     -- where its operands are right, an instruction of an owner that is there keeps the shape
     pub ins-kept : (i : Instruction) (st : Stack) {n n' : Now} (r : Ran) → has_operands c i ≡ true → Going c p n.image
         → Does i st i.op n r n' → How (Going c p) (Good c) r n'.image
-    unfolding no_send if◌then◌else◌
+    unfolding no_send when◌then◌else◌
     ins-kept i st {n} {n'} r v g w = go i.op refl (kind-of i (send_from p (send c k)) no_send st i.op) w
       where
         go : (o : Op) → i.op ≡ o → Kind i (send_from p (send c k)) no_send st o → Does i st o n r n'
@@ -155,7 +155,7 @@ module _ (c : Chart) (rt : Right c) where
     ins-sound sound i st {n} {n'} r v g w = go i.op refl (kind-of i (send_from p (send c k)) no_send st i.op) w
       where
         of_send : (s : State) (j : ℕ) (m m' : Now) → i.op ≡ C.send → i.b ≡ pos s → Going c p m.image
-            → Dispatch c j i.a s m m' → c ⊢ ⇝i j p st i m m' (if is_active m'.image p then ran st else abandoned)
+            → Dispatch c j i.a s m m' → c ⊢ ⇝i j p st i m m' (when is_active m'.image p then ran st else abandoned)
         of_send s j m m' q e a (sent on x) = R.SendF q e on x
         of_send s j m m' q e a (unsent off) = rw (there p st m.image a.1.on) (R.SendN q e off)
 
@@ -197,9 +197,9 @@ module _ (c : Chart) (rt : Right c) where
         (rw same at h, to ∙ same)
 
     pub send-goes : {n n' : Now} → is_active n.image b ≡ true → Goes (run c (send c k) i.a levels b) n n'
-        → Does (suc k) p i st i.op n (if is_active n'.image p then ran st else abandoned) n'
+        → Does (suc k) p i st i.op n (when is_active n'.image p then ran st else abandoned) n'
     send-goes {n} {n'} a w =
-        subst (λ (o : Op). Does (suc k) p i st o n (if is_active n'.image p then ran st else abandoned) n') (sym q)
+        subst (λ (o : Op). Does (suc k) p i st o n (when is_active n'.image p then ran st else abandoned) n') (sym q)
         (does-send (suc k) p i st named.1 (sent-goes k i.a b a w))
 
     pub unsend-goes : {n : Now} → is_active n.image p ≡ true → is_active n.image b ≡ false

@@ -9,7 +9,7 @@ use Prim.Native.Nat.{ℕ, zero, suc, ◌+◌, ◌<◌}
 use native.Mathlib.Omega.{arith}
 use lib.Dec.{eqb}
 use borrow.Author.Tests.{ne_eqb}
-use Rattle.rules.specs.Lists.{if◌then◌else◌, first}
+use Rattle.rules.specs.Lists.{when◌then◌else◌, first}
 use Rattle.rules.specs.Chart.{State, Segment, Chart, states, during, is_one_of, children, outer, inner, code}
 use Rattle.rules.specs.Image.{Image, is_active, not_started, accepted}
 use Rattle.rules.specs.Doing.{Now, done, pay, during_point, note, each, when_active}
@@ -168,7 +168,7 @@ module _ (c : Chart) (rt : Right c) (k : ℕ) (sends : SendsSound c k) (e : ℕ)
               let (q, ch, a, is, only) = active-child c rt p m.image g o in
               let b = bind_inv _ _ v in
               let (x, y) = look-inv b.before in
-              let u : Goes (if eqb q 0 then done else run c (send c k) e d q) m m' = rw (x, y, is) at b.behind in
+              let u : Goes (when eqb q 0 then done else run c (send c k) e d q) m m' = rw (x, y, is) at b.behind in
               elim (choose-inv _ _ _ u) [
                 | inl (z, t) ↦ clash z (ne_eqb q 0 (λ r. omega arith))
                 | inr (z, t) ↦
@@ -254,7 +254,7 @@ module _ (c : Chart) (rt : Right c) where
       ]
 
   pub step-sound : (e : ℕ) (n n' : Now) → accepted n.image c ≡ true → Goes (step c e) n n' → c ⊢ ⇝Ch e n n'
-  unfolding step start if◌then◌else◌
+  unfolding step start when◌then◌else◌
   step-sound e n n' a w =
       elim (two (not_started n.image)) [
         | inl s ↦

@@ -10,7 +10,7 @@ use native.Mathlib.Decide.{ℕ_discrete}
 use native.Mathlib.Omega.{arith}
 use lib.Dec.{eqb}
 use borrow.Author.Tests.{eq-eqb, ne_eqb, eqb-true}
-use Rattle.rules.specs.Lists.{if◌then◌else◌, every}
+use Rattle.rules.specs.Lists.{when◌then◌else◌, every}
 use Rattle.rules.specs.Chart.{State, Segment, Chart, states, deepest, parent, children, lineage, over}
 use Rattle.rules.specs.Fire.{on_the_way, junction_parents, common, arena}
 use Rattle.rules.proofs.Laws.{two, clash, not_yes, and_left}
@@ -82,7 +82,7 @@ module _ (c : Chart) (rt : Right c) where
 
     -- what each child of an all-of state is handed
     pub each_way : {p : State} (h : List State) → Towards c s p h → (k : State) → Child c p k → Towards c s k (tail (towards k h))
-    unfolding if◌then◌else◌
+    unfolding when◌then◌else◌
     each_way [] w k ch = (off-way w).1 k ch
     each_way {p} (q ∷ h) w k ch =
         let (e, cq, bq, d) = on-way w in
@@ -93,7 +93,7 @@ module _ (c : Chart) (rt : Right c) where
 
   -- the arena is the target or above it
   pub arena-below : (p s : State) (path : List Segment) → p < states c → s < states c → Below c (arena c p s path) s
-  unfolding arena common if◌then◌else◌
+  unfolding arena common when◌then◌else◌
   arena-below p s path h real =
       elim (two (eqb p s && eqb p (common c p s path))) [
         | inl e ↦ rw (e, ← eqb-true p s (and_left (eqb p s) _ e)) (parent_above p h)

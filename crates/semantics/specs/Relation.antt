@@ -6,7 +6,7 @@
 -- a condition gives, the arena, a unit and an item, the fields of chart and image, the lists made of them with their order, the
 -- tests and changes of an image. Assumes nothing.
 use Rattle.std.specs.Prelude.{◌≡◌, ◌⊎◌, Bool, true, false, List, [], ◌∷◌, ℕ, suc, ◌+◌, ◌<◌, eqb, pos}
-use Rattle.rules.specs.Lists.{if◌then◌else◌, is_in}
+use Rattle.rules.specs.Lists.{when◌then◌else◌, is_in}
 use Rattle.rules.specs.Chart as C
 use Rattle.rules.specs.Chart.{State, Segment, Chart, Instruction, initial, entry, during, exit, destination, event, condition_action, transition_action, is_one_of, keeps_history, ends_on_state, children, children_down, outer, inner, from_junction, code}
 use Rattle.rules.specs.Accept.{is_send}
@@ -34,7 +34,7 @@ pub record ActiveChild (c : Chart) (im : Image) (p q : State) : Type 0 where
 
 -- a history junction of p records q: b → I₄ = I₃[p ↦ (_, _, q)], ¬b → I₄ = I₃
 abbrev pub records : Chart → State → State → Done
-records c p q = if keeps_history c p then change (λ im. record_child im p q) else done
+records c p q = when keeps_history c p then change (λ im. record_child im p q) else done
 
 -- 002's h = s \ a: h is the path from a down to s, child by child
 pub data Descent (c : Chart) : State → List State → State → Type 0 where
@@ -49,7 +49,7 @@ tail (q ∷ h) = h
 -- what a child s is handed of it: if s = head(h) then h else ε
 abbrev pub towards : State → List State → List State
 towards s [] = []
-towards s (q ∷ h) = if eqb s q then q ∷ h else []
+towards s (q ∷ h) = when eqb s q then q ∷ h else []
 
 -- enb(t, α, e), or that it is not so: E = e ∨ E = ε, and [[c]], which 01 performs only then
 pub data Enb (c : Chart) (e : ℕ) (t : Segment) (n : Now) : Now → Bool → Type 0 where
@@ -91,7 +91,7 @@ pub data ◌⊢◌ (c : Chart) : Arrow → Type 0 where
   -- block is a list of instructions, over a stack; a send's event is a, and the state that it goes to is b
   SendF : {k : ℕ} {p b : State} {st : Stack} {i : Instruction} {n n' : Now}
       → i.op ≡ C.send → i.b ≡ pos b → ⟦ is_active n.image b ≡ true ⟧ → c ⊢ ⇝runS k i.a b n n'
-      → c ⊢ ⇝i (suc k) p st i n n' (if is_active n'.image p then ran st else abandoned)
+      → c ⊢ ⇝i (suc k) p st i n n' (when is_active n'.image p then ran st else abandoned)
   SeqT : {k : ℕ} {p : State} {st st₁ : Stack} {i : Instruction} {is : List Instruction} {n n₁ n₂ n₃ : Now} {r : Ran}
       → ⟦ Goes pay n n₁ ⟧ → c ⊢ ⇝i k p st i n₁ n₂ (ran st₁) → c ⊢ ⇝a k p st₁ is n₂ n₃ r
       → c ⊢ ⇝a k p st (i ∷ is) n n₃ r

@@ -14,7 +14,7 @@ use Rattle.std.specs.declared.option.Option.{Option}
 use Rattle.std.specs.Prelude.{None, Some, IfSome}
 use Rattle.std.specs.Io.KnownBytes.{Appends}
 use Rattle.rules.specs.Bytes.{Bytes, byte, field}
-use Rattle.rules.specs.Lists.{if◌then◌else◌, within}
+use Rattle.rules.specs.Lists.{when◌then◌else◌, within}
 use Rattle.rules.specs.Chart.{Chart}
 use Rattle.rules.specs.Accept.{marked}
 use Rattle.rules.specs.Doing.{most_units}
@@ -53,7 +53,7 @@ module _ (c : Chart) (board : Board) (trace : Bytes) where
   -- an event's line, and then the lines of the records behind it, over what the step left
   pub event-next : (r : Bytes) → starts_with_event r ≡ true
       → event_lines c board trace r ≡ step_line (stepped r) ++ event_lines c (stepped r).board (stepped r).trace (drop 3 r)
-  unfolding event_lines if◌then◌else◌ marked
+  unfolding event_lines when◌then◌else◌ marked
   event-next [] t = absurd (false≢true t)
   event-next (m ∷ []) t = absurd (false≢true t)
   event-next (m ∷ n ∷ []) t = absurd (false≢true t)
@@ -61,7 +61,7 @@ module _ (c : Chart) (board : Board) (trace : Bytes) where
 
   -- any other record ends the session
   pub no-event : (r : Bytes) → starts_with_event r ≡ false → 0 < length r → event_lines c board trace r ≡ bad_session
-  unfolding event_lines if◌then◌else◌ marked
+  unfolding event_lines when◌then◌else◌ marked
   no-event [] t h = absurd (omega arith)
   no-event (m ∷ []) t h = refl
   no-event (m ∷ n ∷ []) t h = refl
@@ -70,7 +70,7 @@ module _ (c : Chart) (board : Board) (trace : Bytes) where
   -- what is left goes the same way: by the event's step, and no further than the events
   pub after_next : (k : ℕ) (r : Bytes) → starts_with_event r ≡ true
       → after_events c board trace k r ≡ after_events c (stepped r).board (stepped r).trace (k + 1) (drop 3 r)
-  unfolding after_events if◌then◌else◌ marked
+  unfolding after_events when◌then◌else◌ marked
   after_next k [] t = absurd (false≢true t)
   after_next k (m ∷ []) t = absurd (false≢true t)
   after_next k (m ∷ n ∷ []) t = absurd (false≢true t)
@@ -79,7 +79,7 @@ module _ (c : Chart) (board : Board) (trace : Bytes) where
   -- the same with anything behind the event
   pub after-stepped : (k : ℕ) (r rest : Bytes) → starts_with_event r ≡ true
       → after_events c (stepped r).board (stepped r).trace (k + 1) rest ≡ after_events c board trace k (take 3 r ++ rest)
-  unfolding after_events if◌then◌else◌ marked
+  unfolding after_events when◌then◌else◌ marked
   after-stepped k [] rest t = absurd (false≢true t)
   after-stepped k (m ∷ []) rest t = absurd (false≢true t)
   after-stepped k (m ∷ n ∷ []) rest t = absurd (false≢true t)
@@ -88,7 +88,7 @@ module _ (c : Chart) (board : Board) (trace : Bytes) where
 
   pub after_none : (k : ℕ) (r : Bytes) → starts_with_event r ≡ false → 0 < length r
       → after_events c board trace k r ≡ record { board = board; trace = trace; lines = k + 1 }
-  unfolding after_events if◌then◌else◌ marked
+  unfolding after_events when◌then◌else◌ marked
   after_none k [] t h = absurd (omega arith)
   after_none k (m ∷ []) t h = refl
   after_none k (m ∷ n ∷ []) t h = refl
@@ -175,7 +175,7 @@ module _ (c : Chart) (board : Board) (trace events : Bytes) {t : Bool} (own : t 
   pub chart-taken : t ≡ true → {r : ℕ} {board' : Board} {l : Lent}
       → record { answer = r; board = board'; trace = [] } ≡ observed (fresh_call c board 0)
       → l ≡ after_events c board' trace 0 events → l ≡ after_chart c board trace events
-  unfolding after_chart if◌then◌else◌ observed
+  unfolding after_chart when◌then◌else◌ observed
   chart-taken so fresh e =
       let boards = ap (λ (x : Observed). x.board) fresh in
       e ∙ rw (not-true (within 1 11 (bound_call c).refusal.number) (sym own ∙ so), boards)
@@ -187,30 +187,30 @@ module _ (c : Chart) (board : Board) (trace events : Bytes) {t : Bool} (own : t 
   left-at-most fresh some = inr (rw (ap (λ (x : Observed). x.board) fresh) at some)
 
   pub chart-refused : t ≡ false → record { board = board; trace = trace; lines = 0 } ≡ after_chart c board trace events
-  unfolding after_chart if◌then◌else◌
+  unfolding after_chart when◌then◌else◌
   chart-refused so = rw (not-false (within 1 11 (bound_call c).refusal.number) (sym own ∙ so))
 
   -- what is said of it
   pub text-taken : t ≡ true → {r : ℕ} {board' : Board} → record { answer = r; board = board'; trace = [] } ≡ observed (fresh_call c board 0)
       → bound_line c ++ event_lines c board' trace events ≡ chart_text c board trace events
-  unfolding chart_text if◌then◌else◌ observed
+  unfolding chart_text when◌then◌else◌ observed
   text-taken so fresh =
       let boards = ap (λ (x : Observed). x.board) fresh in
       rw (not-true (within 1 11 (bound_call c).refusal.number) (sym own ∙ so), boards)
 
   pub text-refused : t ≡ false → bound_line c ≡ chart_text c board trace events
-  unfolding chart_text if◌then◌else◌
+  unfolding chart_text when◌then◌else◌
   text-refused so =
       rw (not-false (within 1 11 (bound_call c).refusal.number) (sym own ∙ so)) (sym (append-nil (bound_line c)))
 
 -- a session by its chart and its events
 pub session-bad : (s : Bytes) {t : Bool} → t ≡ is_bad s → t ≡ true → session s ≡ bad_session
-unfolding session if◌then◌else◌
+unfolding session when◌then◌else◌
 session-bad s own so = rw (sym own ∙ so)
 
 pub session-good : (s : Bytes) {t : Bool} {end : ℕ} → t ≡ is_bad s → t ≡ false → end ≡ 4 + field 2 s 2
     → chart_text (take (end - 4) (drop 4 s)) (replicate image_size 0) (replicate 1024 0) (take (length s - end) (drop end s)) ≡ session s
-unfolding session chart_text chart_lines if◌then◌else◌
+unfolding session chart_text chart_lines when◌then◌else◌
 session-good s {t} {end} own so e =
     let chart : end - 4 ≡ field 2 s 2 = omega (arith, e) in
     rw (sym own ∙ so, rest_all s end, chart, e)

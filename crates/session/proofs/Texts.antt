@@ -10,7 +10,7 @@ use borrow.Author.Tests.{lt-ltb, le-ltb}
 use lib.ListN.{length, drop, set, length-append}
 use lib.Seq.{sets}
 use Rattle.rules.specs.Bytes.{Bytes, ascii, field}
-use Rattle.rules.specs.Lists.{if◌then◌else◌}
+use Rattle.rules.specs.Lists.{when◌then◌else◌}
 use Rattle.rules.specs.Session.{decimal, line, items_in}
 use Rattle.fields.proofs.Laws.{field-drop}
 use Rattle.session.specs.Said.{Line, with_text, spaced}
@@ -28,12 +28,12 @@ put_then b at xs ys first second =
 
 -- a number has at most the digits asked
 pub decimal-room : (d n : ℕ) → length (decimal d n) ≤ d
-unfolding decimal if◌then◌else◌
+unfolding decimal when◌then◌else◌
 decimal-room zero n = omega arith
 decimal-room (suc d) n = by-test (ltb n 10) (decimal-room d (n / 10))
   where
     by-test : (t : Bool) → length (decimal d (n / 10)) ≤ d
-        → length ((if t then [] else decimal d (n / 10)) ++ ((48 + n % 10) ∷ [])) ≤ suc d
+        → length ((when t then [] else decimal d (n / 10)) ++ ((48 + n % 10) ∷ [])) ≤ suc d
     by-test true h = omega arith
     by-test false h = omega (arith, length-append (decimal d (n / 10)) ((48 + n % 10) ∷ []), h)
 
@@ -43,12 +43,12 @@ unfolding decimal
 no-digits b at d n h = rw h (ap (λ k. record { bytes = b; end = k }) (omega arith))
 
 pub one-digit : (d n : ℕ) → (d ≡ 0 → ⊥) → n < 10 → decimal d n ≡ (48 + n % 10) ∷ []
-unfolding decimal if◌then◌else◌
+unfolding decimal when◌then◌else◌
 one-digit zero n h l = elim (h refl) [ ]
 one-digit (suc d) n h l = rw (lt-ltb n 10 l) refl
 
 pub more-digits : (d n : ℕ) → (d ≡ 0 → ⊥) → 10 ≤ n → decimal d n ≡ decimal (d - 1) (n / 10) ++ ((48 + n % 10) ∷ [])
-unfolding decimal if◌then◌else◌
+unfolding decimal when◌then◌else◌
 more-digits zero n h l = elim (h refl) [ ]
 more-digits (suc d) n h l =
     let e : suc d - 1 ≡ d = omega arith in

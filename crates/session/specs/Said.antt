@@ -5,7 +5,7 @@ use Rattle.std.proofs.lemmas.List.Edits.{sets}
 use Rattle.rules.specs.Bytes.{Bytes, ascii}
 use Rattle.rules.specs.Chart.{Chart}
 use Rattle.rules.specs.Accept.{marked}
-use Rattle.rules.specs.Lists.{if◌then◌else◌, within}
+use Rattle.rules.specs.Lists.{when◌then◌else◌, within}
 use Rattle.rules.specs.Doing.{most_units}
 use Rattle.rules.specs.Calls.{Board, Answer, fresh_call, bound_call, step_call}
 use Rattle.rules.specs.Session.{decimal, line, step_line, event_lines}
@@ -59,19 +59,19 @@ after_events c board trace k (m ∷ n ∷ []) = record { board = board; trace = 
 after_events c board trace k (m ∷ n ∷ e ∷ rest) =
     let a = step_call c board trace 0 e most_units in
     let goes = after_events c a.board a.trace (k + 1) rest in
-    (if marked (m ∷ n ∷ []) "EV" 0 then goes else record { board = board; trace = trace; lines = k + 1 })
+    (when marked (m ∷ n ∷ []) "EV" 0 then goes else record { board = board; trace = trace; lines = k + 1 })
 
 -- what a chart and its events leave: unless the chart is refused, its lift is made fresh and the events follow
 unfoldable pub after_chart : Chart → Board → Bytes → Bytes → Lent
 after_chart c board trace events =
     let goes = after_events c (fresh_call c board 0).board trace 0 events in
-    (if within 1 11 (bound_call c).refusal.number then record { board = board; trace = trace; lines = 0 } else goes)
+    (when within 1 11 (bound_call c).refusal.number then record { board = board; trace = trace; lines = 0 } else goes)
 
 -- what a chart and its events say, the calls being lent that board and that trace
 unfoldable pub chart_text : Chart → Board → Bytes → Bytes → Bytes
 chart_text c board trace events =
     let lines = event_lines c (fresh_call c board 0).board trace events in
-    bound_line c ++ (if within 1 11 (bound_call c).refusal.number then [] else lines)
+    bound_line c ++ (when within 1 11 (bound_call c).refusal.number then [] else lines)
 
 -- a board and a trace are what the events' first bytes leave, so many of them
 pub record LeftBySome (c : Chart) (board : Board) (trace events : Bytes) (board' : Board) (trace' : Bytes) : Type 0 where

@@ -1,19 +1,19 @@
 -- The maker's answer tells what its test said. Assumes nothing.
 use mathlib.Core.Path.{◌≡◌, refl, sym, ◌∙◌}
 use mathlib.Core.Bool.{Bool, true, false}
-use Rattle.rules.specs.Lists.{if◌then◌else◌}
+use Rattle.rules.specs.Lists.{when◌then◌else◌}
 use Rattle.rules.specs.declared.headers.Header.{Header}
 use Rattle.rules.specs.declared.headers.Made.TheVariants.{Of, Outside}
 use Rattle.checker.proofs.counts_right.Goals as goal
 
 -- what the maker made tells what its test said
-made : (b : Bool) (h : Header) {x : Header} → (if b then Of h else Outside) ≡ Of x → true ≡ b
-unfolding if◌then◌else◌
+made : (b : Bool) (h : Header) {x : Header} → (when b then Of h else Outside) ≡ Of x → true ≡ b
+unfolding when◌then◌else◌
 made true h e = refl
 made false h e = cc
 
-unmade : (b : Bool) (h : Header) → (if b then Of h else Outside) ≡ Outside → false ≡ b
-unfolding if◌then◌else◌
+unmade : (b : Bool) (h : Header) → (when b then Of h else Outside) ≡ Outside → false ≡ b
+unfolding when◌then◌else◌
 unmade true h e = cc
 unmade false h e = refl
 

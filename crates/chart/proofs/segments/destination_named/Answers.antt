@@ -1,17 +1,17 @@
 -- Each kind by itself, and every other is unknown. Assumes nothing.
 use native.Mathlib.Omega.{arith}
 use borrow.Author.Tests.{ne_eqb}
-use Rattle.rules.specs.Lists.{if◌then◌else◌}
+use Rattle.rules.specs.Lists.{when◌then◌else◌}
 use Rattle.chart.proofs.segments.destination_named.Goals as goal
 
 pub returns-in-0 : goal.returns-in-0
-unfolding if◌then◌else◌
+unfolding when◌then◌else◌
 returns-in-0 c = rw c.in-0.is
 
 pub returns-in-1 : goal.returns-in-1
-unfolding if◌then◌else◌
+unfolding when◌then◌else◌
 returns-in-1 c = rw c.in-1.is
 
 pub returns-in_default : goal.returns-in_default
-unfolding if◌then◌else◌
+unfolding when◌then◌else◌
 returns-in_default c = rw (ne_eqb c.args.kind 0 (λ e. omega arith), ne_eqb c.args.kind 1 (λ e. omega arith))

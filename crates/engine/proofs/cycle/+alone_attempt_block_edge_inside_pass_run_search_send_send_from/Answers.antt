@@ -3,7 +3,7 @@ use Prim.Native.Nat.{ℕ, ◌-◌}
 use mathlib.Core.Path.{sym, ◌∙◌, ap}
 use native.Mathlib.Omega.{arith}
 use borrow.Author.Rules.{rules}
-use Rattle.rules.specs.Lists.{if◌then◌else◌}
+use Rattle.rules.specs.Lists.{when◌then◌else◌}
 use Rattle.rules.specs.Doing.{give, ◌>>◌, segment_passed, ◌>>=◌, during_point}
 use Rattle.rules.proofs.Spending.{note-spends}
 use Rattle.doing.specs.Held.{now_of}
@@ -109,12 +109,12 @@ attempt-returns-in-Refused t c = tried-passes c.args.chart.now c.args.sends c.ar
     (pass-came c.args.chart.now c.args.sends c.args.source.0 c.args.t.0 _ (128 - c.args.before) (λ z. omega (arith, z, c.if-before-ge-PATH.false)) c.pass-acted.new.image c.pass-acted.new.trace c.pass-acted.ensures c.in-Refused.is)
 
 pub attempt-returns-in-Yes-acted : goal.attempt-returns-in-Yes-acted
-unfolding give if◌then◌else◌
+unfolding give when◌then◌else◌
 attempt-returns-in-Yes-acted t c = tried-passes c.args.chart.now c.args.sends c.args.event c.args.source.0 (128 - c.args.before) c.args.t.0 (now_of c.args.image.now c.args.trace.now c.args.counts) c.passes-tested.new.image c.passes-tested.new.trace c.in-Yes.is c.passes-tested.ensures
     (pass-came c.args.chart.now c.args.sends c.args.source.0 c.args.t.0 _ (128 - c.args.before) (λ z. omega (arith, z, c.if-before-ge-PATH.false)) c.pass-acted.new.image c.pass-acted.new.trace c.pass-acted.ensures c.in-Yes-acted.is)
 
 pub attempt-returns-in-No : goal.attempt-returns-in-No
-unfolding give if◌then◌else◌
+unfolding give when◌then◌else◌
 attempt-returns-in-No t c = tried-passes c.args.chart.now c.args.sends c.args.event c.args.source.0 (128 - c.args.before) c.args.t.0 (now_of c.args.image.now c.args.trace.now c.args.counts) c.passes-tested.new.image c.passes-tested.new.trace c.in-Yes.is c.passes-tested.ensures
     (pass-came c.args.chart.now c.args.sends c.args.source.0 c.args.t.0 _ (128 - c.args.before) (λ z. omega (arith, z, c.if-before-ge-PATH.false)) c.pass-acted.new.image c.pass-acted.new.trace c.pass-acted.ensures c.in-No.is)
 

@@ -1,13 +1,13 @@
 -- `stepping::step` meets its contract: by the test of what has started, the start or the run of the root. Assumes nothing.
 use mathlib.Core.Path.{sym}
-use Rattle.rules.specs.Lists.{if◌then◌else◌}
+use Rattle.rules.specs.Lists.{when◌then◌else◌}
 use Rattle.rules.specs.Run as rules
 use Rattle.engine.proofs.stepping.step.Goals as goal
 
 pub returns-then-not_started : goal.returns-then-not_started
-unfolding rules.step if◌then◌else◌
+unfolding rules.step when◌then◌else◌
 returns-then-not_started c = rw (sym c.not_started.ensures, c.if-not_started.true) c.start.ensures
 
 pub returns : goal.returns
-unfolding rules.step if◌then◌else◌
+unfolding rules.step when◌then◌else◌
 returns c = rw (sym c.not_started.ensures, c.if-not_started.false) c.run.ensures
