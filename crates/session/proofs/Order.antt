@@ -2,17 +2,15 @@
 -- Assumes nothing.
 use mathlib.Core.Path.{◌≡◌, refl, sym, ap, ◌∙◌}
 use mathlib.Core.Bool.{Bool, true, false, ◌||◌, not, true≢false, false≢true}
-use mathlib.Core.Logic.{inr}
-use mathlib.Core.List.{[], ◌∷◌, ◌++◌, append_assoc, append-nil}
+use mathlib.Core.List.{[], ◌∷◌, ◌++◌, append-nil}
 use Prim.Native.Nat.{ℕ, ◌+◌, ◌-◌, ◌≤◌, ◌<◌}
 use native.Mathlib.Omega.{arith}
 use borrow.Author.Tests.{leb-true, leb-false, le-leb, lt-ltb, ltb-false, not-false, not-true}
 use lib.Dec.{leb, ltb}
-use lib.ListN.{length, take, drop, replicate, length-take, length-drop, drop_of_length-le, take-append-drop}
-use lib.Seq.{take_all, drop-drop, take-add, length-take-le}
+use lib.ListN.{length, take, drop, replicate, length-take, length-drop, drop_of_length-le}
+use lib.Seq.{take_all, drop-drop, length-take-le}
 use Rattle.std.specs.declared.option.Option.{Option}
 use Rattle.std.specs.Prelude.{None, Some, IfSome}
-use Rattle.std.specs.Io.KnownBytes.{Appends}
 use Rattle.rules.specs.Bytes.{Bytes, byte, field}
 use Rattle.rules.specs.Lists.{when◌then◌else◌, within}
 use Rattle.rules.specs.Chart.{Chart}
@@ -22,7 +20,7 @@ use Rattle.rules.specs.Calls.{Board, Answer, fresh_call, bound_call, step_call, 
 use Rattle.rules.specs.Image.{image_size}
 use Rattle.rules.specs.Session.{bad_session, step_line, event_lines, chart_lines, is_bad, session}
 use Rattle.rules.proofs.Laws.{and_left, and_right}
-use Rattle.session.specs.Said.{Line, Told, told, starts_with_event, Lent, after_events, bound_line, after_chart, chart_text, LeftBySome, LeftAtMost}
+use Rattle.session.specs.Said.{Line, Told, told, starts_with_event, Lent, after_events, bound_line, after_chart, chart_text, Adds}
 
 -- a session that is not bad has its whole chart
 second-no : (a b : Bool) → (a || b) ≡ false → b ≡ false
@@ -76,16 +74,6 @@ module _ (c : Chart) (board : Board) (trace : Bytes) where
   after_next k (m ∷ n ∷ []) t = absurd (false≢true t)
   after_next k (m ∷ n ∷ e ∷ rest) t = rw (and_right (leb 3 (length (m ∷ n ∷ e ∷ rest))) (marked (m ∷ n ∷ []) "EV" 0) t)
 
-  -- the same with anything behind the event
-  pub after-stepped : (k : ℕ) (r rest : Bytes) → starts_with_event r ≡ true
-      → after_events c (stepped r).board (stepped r).trace (k + 1) rest ≡ after_events c board trace k (take 3 r ++ rest)
-  unfolding after_events when◌then◌else◌ marked
-  after-stepped k [] rest t = absurd (false≢true t)
-  after-stepped k (m ∷ []) rest t = absurd (false≢true t)
-  after-stepped k (m ∷ n ∷ []) rest t = absurd (false≢true t)
-  after-stepped k (m ∷ n ∷ e ∷ more) rest t =
-      rw (and_right (leb 3 (length (m ∷ n ∷ e ∷ more))) (marked (m ∷ n ∷ []) "EV" 0) t)
-
   pub after_none : (k : ℕ) (r : Bytes) → starts_with_event r ≡ false → 0 < length r
       → after_events c board trace k r ≡ record { board = board; trace = trace; lines = k + 1 }
   unfolding after_events when◌then◌else◌ marked
@@ -98,51 +86,30 @@ module _ (c : Chart) (board : Board) (trace : Bytes) where
 rest_all : (events : Bytes) (at : ℕ) → take (length events - at) (drop at events) ≡ drop at events
 rest_all events at = take_all (length events - at) (drop at events) (omega (arith, length-drop at events))
 
--- what the events up to a place leave: whatever comes behind them goes on from there
-abbrev pub Goes : Chart → Board → Bytes → Bytes → ℕ → Board → Bytes → ℕ → Type 0
-Goes c board₀ trace₀ events at board trace k =
-    (rest : Bytes) → after_events c board trace k rest ≡ after_events c board₀ trace₀ 0 (take at events ++ rest)
-
-pub goes-first : (c : Chart) (board : Board) (trace events : Bytes) → Goes c board trace events 0 board trace 0
-goes-first c board trace events rest = refl
-
--- a turn of the loop: by an event's step it goes on, and at another record, or behind the last, it is there
-module _ (c : Chart) (board₀ : Board) (trace₀ events : Bytes) (at : ℕ) (board : Board) (trace : Bytes) (k : ℕ)
-    (so : Goes c board₀ trace₀ events at board trace k) where
+-- a turn of the loop: by an event's step what is left stays what it was, and at another record, or behind the last, it is there
+module _ (c : Chart) (events : Bytes) (at : ℕ) (board : Board) (trace : Bytes) (k : ℕ) where
   pub turn : {t : Bool} → t ≡ starts_with_event (take (length events - at) (drop at events)) → t ≡ true
       → (b : Bytes) {l : Line} {board' : Board} {trace' : Bytes}
       → record { said = l; board = board'; trace = trace' }
       ≡ told b (step_call c board trace 0 (byte (take (length events - at) (drop at events)) 2) most_units)
-      → Goes c board₀ trace₀ events (at + 3) board' trace' (k + 1)
-  turn {t} own event b e rest =
+      → after_events c board' trace' (k + 1) (drop (at + 3) events) ≡ after_events c board trace k (drop at events)
+  turn {t} own so b e =
       let r : take (length events - at) (drop at events) ≡ drop at events = rest_all events at in
-      let an-event : starts_with_event (drop at events) ≡ true = rw r at (sym own ∙ event) in
+      let yes : starts_with_event (drop at events) ≡ true = rw r at (sym own ∙ so) in
       let boards = ap (λ (x : Told). x.board) e in
       let traces = ap (λ (x : Told). x.trace) e in
-      rw (boards, traces, r) (after-stepped c board trace k (drop at events) rest an-event)
-      ∙ so (take 3 (drop at events) ++ rest)
-      ∙ ap (after_events c board₀ trace₀ 0)
-      (sym (append_assoc (take at events) (take 3 (drop at events)) rest) ∙ ap (λ xs. xs ++ rest) (sym (take-add at 3 events)))
-
-  -- all the events
-  whole : after_events c board trace k (drop at events) ≡ after_events c board₀ trace₀ 0 events
-  whole = so (drop at events) ∙ ap (after_events c board₀ trace₀ 0) (take-append-drop at events)
+      rw (boards, traces, r, ← drop-drop 3 at events) (sym (after_next c board trace k (drop at events) yes))
 
   pub turned-away : {t : Bool} → t ≡ starts_with_event (take (length events - at) (drop at events)) → t ≡ false
-      → at < length events → record { board = board; trace = trace; lines = k + 1 } ≡ after_events c board₀ trace₀ 0 events
-  turned-away {t} own other h =
-      let none = rw (rest_all events at) at (sym own ∙ other) in
-      sym (after_none c board trace k (drop at events) none (omega (arith, length-drop at events))) ∙ whole
+      → at < length events → record { board = board; trace = trace; lines = k + 1 } ≡ after_events c board trace k (drop at events)
+  turned-away {t} own so h =
+      let none = rw (rest_all events at) at (sym own ∙ so) in
+      sym (after_none c board trace k (drop at events) none (omega (arith, length-drop at events)))
 
   pub all_told : length events ≤ at
-      → record { board = board; trace = trace; lines = k } ≡ after_events c board₀ trace₀ 0 events
+      → record { board = board; trace = trace; lines = k } ≡ after_events c board trace k (drop at events)
   unfolding after_events
-  all_told h = rw (drop_of_length-le events h) at whole
-
-  -- those up to there alone
-  pub left : LeftBySome c board₀ trace₀ events board trace
-  unfolding after_events
-  left = record { bytes = at; lines = k; left = so [] ∙ ap (after_events c board₀ trace₀ 0) (append-nil (take at events)) }
+  all_told h = rw (drop_of_length-le events h)
 
 -- what is still to be said, at each turn
 module _ (c : Chart) (events : Bytes) (at : ℕ) (board : Board) (trace : Bytes) where
@@ -179,12 +146,6 @@ module _ (c : Chart) (board : Board) (trace events : Bytes) {t : Bool} (own : t 
   chart-taken so fresh e =
       let boards = ap (λ (x : Observed). x.board) fresh in
       e ∙ rw (not-true (within 1 11 (bound_call c).refusal.number) (sym own ∙ so), boards)
-
-  pub left-at-most : {r : ℕ} {board' board'' : Board} {trace'' : Bytes}
-      → record { answer = r; board = board'; trace = [] } ≡ observed (fresh_call c board 0)
-      → LeftBySome c board' trace events board'' trace'' → LeftAtMost c board trace events board'' trace''
-  unfolding observed
-  left-at-most fresh some = inr (rw (ap (λ (x : Observed). x.board) fresh) at some)
 
   pub chart-refused : t ≡ false → record { board = board; trace = trace; lines = 0 } ≡ after_chart c board trace events
   unfolding after_chart when◌then◌else◌
@@ -231,15 +192,19 @@ session-front given = by-length (leb (length given) 16384) refl
         let h = leb-false (length given) 16384 e in
         session-long (take 16385 given) (omega (arith, length-take-le 16385 given (omega arith))) ∙ sym (session-long given (omega arith))
 
--- what was written of that much of the input is the text of all of it
-module _ (known a b : Option Bytes) (s : Bytes) (n : ℕ) (long : n ≡ 16385)
-    (front : IfSome known (λ given. s ≡ take n given)) where
-  told-by : (k : Option Bytes) → IfSome k (λ given. s ≡ take n given) → Appends a b (session s)
-      → IfSome k (λ given. Appends a b (session given))
-  told-by None e w = tt
-  told-by (Some given) e w =
-      let all : session s ≡ session given = ap session (e ∙ ap (λ m. take m given) long) ∙ session-front given in
+-- what was written of the bytes that came is the text of all that there is, where all came
+module _ (t u : Bool) (a b : Option Bytes) (s text : Bytes) (is : text ≡ session s) (w : Adds t u a b text) where
+  pub told-all : (n : ℕ) → n ≡ 16385 → (known : Option Bytes) → IfSome known (λ given. s ≡ take n given)
+      → IfSome known (λ given. Adds t u a b (session given))
+  told-all n long None e = tt
+  told-all n long (Some given) e =
+      let all : text ≡ session given = is ∙ ap session (e ∙ ap (λ m. take m given) long) ∙ session-front given in
       rw all at w
 
-  pub told-all : (text : Bytes) → text ≡ session s → Appends a b text → IfSome known (λ given. Appends a b (session given))
-  told-all text e w = told-by known front (rw e at w)
+  -- and in any case it is that of the first bytes, so many
+  pub told-some : (n : ℕ) (known : Option Bytes) → IfSome known (λ given. s ≡ take n given)
+      → IfSome known (λ given. (k : ℕ) × Adds t u a b (session (take k given)))
+  told-some n None e = tt
+  told-some n (Some given) e =
+      let some : text ≡ session (take n given) = is ∙ ap session e in
+      (n, rw some at w)

@@ -1,6 +1,8 @@
 -- What the session program's functions leave: the text of a line, put into bytes; and what its calls leave of a lift. Assumes
 -- nothing.
-use Rattle.std.specs.Prelude.{Bool, ◌&&◌, List, [], ◌∷◌, ◌++◌, ℕ, ◌+◌, ◌*◌, ◌≡◌, ◌⊎◌, leb, length, take}
+use Rattle.std.specs.declared.option.Option.{Option}
+use Rattle.std.specs.Prelude.{Bool, true, ◌&&◌, List, [], ◌∷◌, ◌++◌, ℕ, ◌+◌, ◌*◌, ◌≡◌, leb, length}
+use Rattle.std.specs.Io.KnownBytes.{Appends}
 use Rattle.std.proofs.lemmas.List.Edits.{sets}
 use Rattle.rules.specs.Bytes.{Bytes, ascii}
 use Rattle.rules.specs.Chart.{Chart}
@@ -73,13 +75,6 @@ chart_text c board trace events =
     let lines = event_lines c (fresh_call c board 0).board trace events in
     bound_line c ++ (when within 1 11 (bound_call c).refusal.number then [] else lines)
 
--- a board and a trace are what the events' first bytes leave, so many of them
-pub record LeftBySome (c : Chart) (board : Board) (trace events : Bytes) (board' : Board) (trace' : Bytes) : Type 0 where
-  pub bytes : ℕ
-  pub lines : ℕ
-  pub left : record { board = board'; trace = trace'; lines = lines } ≡ after_events c board trace 0 (take bytes events)
-
--- they are as they were, or the lift was made fresh and some of the events were stepped
-abbrev pub LeftAtMost : Chart → Board → Bytes → Bytes → Board → Bytes → Type 0
-LeftAtMost c board trace events board' trace' =
-    ((board' ≡ board) × (trace' ≡ trace)) ⊎ LeftBySome c (fresh_call c board 0).board trace events board' trace'
+-- what takes the texts has taken all of each, and so it had before, and holds another text behind what it held
+abbrev pub Adds : Bool → Bool → Option Bytes → Option Bytes → Bytes → Type 0
+Adds before after a b text = after ≡ true → (before ≡ true) × Appends a b text

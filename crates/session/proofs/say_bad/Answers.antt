@@ -5,4 +5,4 @@ use Rattle.session.proofs.say_bad.Goals as goal
 
 pub returns : goal.returns
 unfolding bad_session ascii
-returns g c = c.write_all.ensures.bytes
+returns g c = c.put.ensures

@@ -5,14 +5,13 @@ use lib.ListN.{length, take, replicate, length-replicate}
 use lib.Seq.{length-take-le}
 use borrow.Author.Tests.{not-true, not-false}
 use Rattle.std.proofs.Common.{ℕ, ◌≡◌, [], ◌∷◌}
-use Rattle.std.proofs.lemmas.Result.{on_err_weaker}
 use Rattle.rules.specs.Bytes.{Bytes}
 use Rattle.rules.specs.Chart.{Chart}
 use Rattle.rules.specs.Calls.{bound_call}
 use Rattle.session.specs.Said.{longest, bound_line, Line, with_text}
 use Rattle.session.proofs.Numbered.{line-within, line-text}
-use Rattle.session.proofs.Order.{chart-taken, chart-refused, text-taken, text-refused, left-at-most}
-use Rattle.session.proofs.Written.{ok-then, if_ok}
+use Rattle.session.proofs.Order.{chart-taken, chart-refused, text-taken, text-refused}
+use Rattle.session.proofs.Written.{adds-then}
 use Rattle.session.proofs.say_chart.Goals as goal
 
 -- how long the line's bytes are
@@ -26,32 +25,24 @@ told c b so long = line-text b (bound_call c).refusal.number ((bound_call c).bou
 pub slice_bounds-line-end : goal.slice_bounds-line-end
 slice_bounds-line-end g c = line-within _ _ _ c.bound-said.ensures.length_after size (omega arith)
 
-pub slice_bounds-write_all-end : goal.slice_bounds-write_all-end
-slice_bounds-write_all-end g c = sym (length-take-le _ _ (line-within _ _ _ c.bound-said.ensures.length_after size (omega arith)))
+pub slice_bounds-put-end : goal.slice_bounds-put-end
+slice_bounds-put-end g c = sym (length-take-le _ _ (line-within _ _ _ c.bound-said.ensures.length_after size (omega arith)))
 
 pub returns-then-not-said-clause-leaves : goal.returns-then-not-said-clause-leaves
-returns-then-not-said-clause-leaves g c =
-    chart-refused c.args.chart.now c.args.board.now c.args.trace.now c.args.events.now c.bound-said.ensures.more_value (not-true _ c.if-not-said.true)
+returns-then-not-said-clause-leaves g c = chart-refused c.args.chart.now c.args.board.now c.args.trace.now c.args.events.now c.bound-said.ensures.more_value (not-true _ c.if-not-said.true)
 
 pub returns-then-not-said-clause-writes : goal.returns-then-not-said-clause-writes
 returns-then-not-said-clause-writes g c =
     let one = told c.args.chart.now _ c.bound-said.ensures.length_after size in
     let text = text-refused c.args.chart.now c.args.board.now c.args.trace.now c.args.events.now c.bound-said.ensures.more_value (not-true _ c.if-not-said.true) in
-    rw text at (rw one at c.in_ok-write_all.ensures.bytes)
+    rw text at (rw one at c.put.ensures)
 
 pub returns-clause-leaves : goal.returns-clause-leaves
 returns-clause-leaves g c =
-    if_ok c.say_events.result (λ said. chart-taken c.args.chart.now c.args.board.now c.args.trace.now c.args.events.now c.bound-said.ensures.more_value (not-false _ c.if-not-said.false) c.fresh.ensures)
-    c.say_events.ensures.leaves
+    chart-taken c.args.chart.now c.args.board.now c.args.trace.now c.args.events.now c.bound-said.ensures.more_value (not-false _ c.if-not-said.false) c.fresh.ensures c.say_events.ensures.leaves
 
 pub returns-clause-writes : goal.returns-clause-writes
 returns-clause-writes g c =
     let one = told c.args.chart.now _ c.bound-said.ensures.length_after size in
     let text = text-taken c.args.chart.now c.args.board.now c.args.trace.now c.args.events.now c.bound-said.ensures.more_value (not-false _ c.if-not-said.false) c.fresh.ensures in
-    let first = rw one at c.in_ok-write_all.ensures.bytes in
-    ok-then c.say_events.result _ _ _ _ _ _ first text c.say_events.ensures.writes
-
-pub returns-clause-stops : goal.returns-clause-stops
-returns-clause-stops g c =
-    on_err_weaker c.say_events.result
-    (left-at-most c.args.chart.now c.args.board.now c.args.trace.now c.args.events.now c.bound-said.ensures.more_value c.fresh.ensures) c.say_events.ensures.stops
+    rw text at (adds-then _ _ _ _ _ _ _ _ (rw one at c.put.ensures) c.say_events.ensures.writes)

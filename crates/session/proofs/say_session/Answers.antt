@@ -2,17 +2,17 @@
 -- nothing.
 use mathlib.Core.Path.{sym}
 use Rattle.std.proofs.Common.{rules}
-use Rattle.std.proofs.lemmas.Result.{on_ok_weaker}
-use Rattle.rules.specs.Session.{bad_session}
-use Rattle.session.proofs.Order.{chart-within, session-bad, session-good, told-all}
+use Rattle.session.proofs.Order.{chart-within, session-bad, session-good, told-all, told-some}
 use Rattle.session.proofs.say_session.Goals as goal
 
-pub returns-then-is_bad : goal.returns-then-is_bad
-returns-then-is_bad g c =
-    on_ok_weaker c.say_bad.result
-    (told-all _ _ _ _ _ (search rules) c.in_ok-length.ensures.front bad_session
-    (sym (session-bad _ c.is_bad.ensures c.if-is_bad.true)))
-    c.say_bad.ensures
+pub returns-then-is_bad-clause-all : goal.returns-then-is_bad-clause-all
+returns-then-is_bad-clause-all g c so =
+    told-all _ _ _ _ _ _ (sym (session-bad _ c.is_bad.ensures c.if-is_bad.true)) c.say_bad.ensures _ (search rules) _
+    (c.read_full-came.ensures.all so)
+
+pub returns-then-is_bad-clause-some : goal.returns-then-is_bad-clause-some
+returns-then-is_bad-clause-some g c =
+    told-some _ _ _ _ _ _ (sym (session-bad _ c.is_bad.ensures c.if-is_bad.true)) c.say_bad.ensures _ _ c.read_full-came.ensures.front
 
 pub slice_bounds-say_chart-end : goal.slice_bounds-say_chart-end
 slice_bounds-say_chart-end g c = chart-within _ c.is_bad.ensures c.if-is_bad.false c.chart_end-events.ensures
@@ -23,8 +23,12 @@ slice_bounds-say_chart-count-2 g c = chart-within _ c.is_bad.ensures c.if-is_bad
 pub slice_bounds-say_chart-start-2 : goal.slice_bounds-say_chart-start-2
 slice_bounds-say_chart-start-2 g c = chart-within _ c.is_bad.ensures c.if-is_bad.false c.chart_end-events.ensures
 
-pub returns : goal.returns
-returns g c =
-    told-all _ _ _ _ _ (search rules) c.in_ok-length.ensures.front _
-    (session-good _ c.is_bad.ensures c.if-is_bad.false c.chart_end-events.ensures)
-    c.in_ok-say_chart.ensures.writes
+pub returns-clause-all : goal.returns-clause-all
+returns-clause-all g c so =
+    told-all _ _ _ _ _ _ (session-good _ c.is_bad.ensures c.if-is_bad.false c.chart_end-events.ensures) c.say_chart.ensures.writes
+    _ (search rules) _ (c.read_full-came.ensures.all so)
+
+pub returns-clause-some : goal.returns-clause-some
+returns-clause-some g c =
+    told-some _ _ _ _ _ _ (session-good _ c.is_bad.ensures c.if-is_bad.false c.chart_end-events.ensures) c.say_chart.ensures.writes
+    _ _ c.read_full-came.ensures.front
