@@ -12,6 +12,9 @@ use Rattle.chart.specs.declared.segments.Source.{Source}
 use Rattle.chart.specs.declared.segments.Source.TheVariants as source
 use Rattle.chart.specs.declared.segments.Destination.{Destination}
 use Rattle.chart.specs.declared.segments.Destination.TheVariants as destination
+use Rattle.chart.specs.declared.segments.End.{End}
+use Rattle.chart.specs.declared.segments.End.TheVariants as end
+use Rattle.chart.specs.declared.segments.Start.{Start}
 use Rattle.chart.specs.declared.segments.Next.{Next as NextSegment}
 use Rattle.chart.specs.declared.segments.Next.TheVariants as next_segment
 use Rattle.chart.specs.declared.tree.Next.{Next as NextState}
@@ -57,10 +60,18 @@ destination_named k n =
     when eqb k 0 then destination.State (record { 0 = n })
     else when eqb k 1 then destination.Junction (record { 0 = n }) else destination.Unknown
 
+-- where a segment leads: every kind but a state's is a junction's
+abbrev pub end_named : ℕ → ℕ → End
+end_named k n = when eqb k 0 then end.State (record { 0 = n }) else end.Junction (record { 0 = n })
+
 module _ (c : Chart) (h : Header) where
   -- the children of p from a number on
   unfoldable pub children_from : ℕ → State → List State
   children_from from p = keep (λ s. eqb (parent c s) p) (range from h.states)
+
+  -- where a segment starts
+  abbrev pub start_in : Segment → Start
+  start_in t = record { kind = byte c (segment_place h t + 2); number = byte c (segment_place h t + 3) }
 
   -- the segments from a number on that start there
   abbrev pub starts_in : ℕ → ℕ → Segment → Bool

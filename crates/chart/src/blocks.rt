@@ -12,6 +12,9 @@ pub struct Block {
 impl Block {
     // The deepest that the stack of a block may be.
     pub const STACK: u32 = 16;
+
+    // The cells that hold it.
+    pub const CELLS: usize = Block::STACK as usize;
 }
 
 // The block at an offset of the record that stands at a place.

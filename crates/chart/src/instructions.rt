@@ -85,7 +85,7 @@ pub fn of_block(chart: &[u8], h: Header, block: Block) -> &[u8]
 {
     let length = chart.len();
     let start = places::instruction(h, block.start) as usize;
-    let end = start + Instruction::SIZE as usize * (block.count as usize);
+    let end = start + Header::INSTRUCTION as usize * (block.count as usize);
     if end <= length {
         return &chart[start..end];
     }

@@ -3,7 +3,7 @@ ghost use Rattle.std.specs.Prelude.{◌≡◌, ◌+◌, ◌*◌, eqb};
 ghost use Rattle.rules.specs.Bytes.{byte};
 ghost use Rattle.rules.specs.Chart.{block_at};
 ghost use Rattle.chart.specs.Places.{segment_place};
-ghost use Rattle.chart.specs.Read.{block_of, source_named, destination_named, starts_in, starting_from, first_segment};
+ghost use Rattle.chart.specs.Read.{block_of, source_named, destination_named, end_named, start_in, starts_in, starting_from, first_segment};
 
 use crate::blocks::Block;
 use crate::{blocks, places};
@@ -19,7 +19,7 @@ pub enum Source {
     Unknown,
 }
 
-// Where it ends.
+// Where it ends; Unknown likewise.
 #[derive(Clone, Copy)]
 pub enum Destination {
     State(StateNo),
@@ -27,11 +27,55 @@ pub enum Destination {
     Unknown,
 }
 
+// Where it leads, as the rules read it: every kind but a state's is a junction's.
+#[derive(Clone, Copy)]
+pub enum End {
+    State(StateNo),
+    Junction(JunctionNo),
+}
+
+// Where a list of segments starts, as its records have it. Made by `outer`, `inner` and `junction` alone.
+#[derive(Clone, Copy)]
+pub struct Start {
+    kind: u8,
+    number: u8,
+}
+
 // The next of a list of segments, or its end.
 #[derive(Clone, Copy)]
 pub enum Next {
     Segment(SegmentNo),
     End,
+}
+
+impl Start {
+    // The outer edge of a state, its inner edge, a junction.
+    pub fn outer(s: StateNo) -> Start
+        ensures { result ≡ record { kind = 0; number = s.0 } }
+    {
+        Start {
+            kind: 0,
+            number: s.0,
+        }
+    }
+
+    pub fn inner(s: StateNo) -> Start
+        ensures { result ≡ record { kind = 1; number = s.0 } }
+    {
+        Start {
+            kind: 1,
+            number: s.0,
+        }
+    }
+
+    pub fn junction(j: JunctionNo) -> Start
+        ensures { result ≡ record { kind = 2; number = j.0 } }
+    {
+        Start {
+            kind: 2,
+            number: j.0,
+        }
+    }
 }
 
 fn byte_of(chart: &[u8], h: Header, t: SegmentNo, offset: u8) -> u8
@@ -83,6 +127,18 @@ pub fn ends_on_state(chart: &[u8], h: Header, t: SegmentNo) -> bool
     ensures { result ≡ eqb (byte chart.now (segment_place h t.0 + 4)) 0 }
 {
     byte_of(chart, h, t, 4) == 0
+}
+
+// Where it leads: a segment that does not end on a state leads to a junction.
+pub fn end_of(chart: &[u8], h: Header, t: SegmentNo) -> End
+    ensures { result ≡ end_named (byte chart.now (segment_place h t.0 + 4)) (byte chart.now (segment_place h t.0 + 5)) }
+{
+    let number = byte_of(chart, h, t, 5);
+    if byte_of(chart, h, t, 4) == 0 {
+        End::State(StateNo(number))
+    } else {
+        End::Junction(JunctionNo(number))
+    }
 }
 
 // The state that it ends on, and the junction where it does not end on a state.
@@ -149,7 +205,7 @@ fn starting(chart: &[u8], h: Header, kind: u8, number: u8, from: u16) -> Next
             return Next::Segment(SegmentNo(t));
         }
         t += 1;
-        place += 18;
+        place += SegmentNo::RECORD as usize;
     }
     Next::End
 }
@@ -173,6 +229,22 @@ pub fn from_junction(chart: &[u8], h: Header, j: JunctionNo, from: u16) -> Next
     starting(chart, h, 2, j.0, from)
 }
 
+// The first of the list that starts there.
+pub fn first(chart: &[u8], h: Header, start: Start) -> Next
+    ensures { result ≡ first_segment (starting_from chart.now h start.kind start.number 0) }
+{
+    starting(chart, h, start.kind, start.number, 0)
+}
+
+fn start_of(chart: &[u8], h: Header, t: SegmentNo) -> Start
+    ensures { result ≡ start_in chart.now h t.0 }
+{
+    Start {
+        kind: byte_of(chart, h, t, 2),
+        number: byte_of(chart, h, t, 3),
+    }
+}
+
 // The next of the list that a segment stands in.
 pub fn after(chart: &[u8], h: Header, t: SegmentNo) -> Next
     ensures { result ≡ first_segment (starting_from chart.now h (byte chart.now (segment_place h t.0 + 2)) (byte chart.now (segment_place h t.0 + 3)) (t.0 + 1)) }
@@ -180,11 +252,6 @@ pub fn after(chart: &[u8], h: Header, t: SegmentNo) -> Next
     if h.segments <= t.0 {
         return Next::End;
     }
-    starting(
-        chart,
-        h,
-        byte_of(chart, h, t, 2),
-        byte_of(chart, h, t, 3),
-        t.0 + 1,
-    )
+    let start = start_of(chart, h, t);
+    starting(chart, h, start.kind, start.number, t.0 + 1)
 }

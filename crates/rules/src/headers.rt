@@ -38,6 +38,11 @@ impl Header {
 
     pub const MOST_INSTRUCTIONS: u16 = 1024;
 
+    // The bytes of a variable's record, and of an instruction's.
+    pub const VARIABLE: u32 = 6;
+
+    pub const INSTRUCTION: u32 = 6;
+
     // Whether that many bytes hold a header.
     pub fn is_whole(bytes: usize) -> bool
         ensures { result ≡ leb header_size bytes }

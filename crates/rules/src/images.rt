@@ -25,6 +25,9 @@ impl Image {
 
     pub const VARIABLES: usize = 74;
 
+    // The bytes of a variable.
+    pub const VALUE: usize = 4;
+
     pub const LAST_LIFT: u32 = 63;
 
     pub fn of_lift(lift: u32, bytes: usize) -> Part

@@ -13,6 +13,9 @@ pub struct Item {
 impl Item {
     pub const SIZE: usize = 4;
 
+    // What a kind is multiplied with in a word.
+    pub const KIND_PLACE: u32 = 65_536;
+
     // Items of one step.
     pub const MOST: usize = 256;
 
@@ -76,7 +79,7 @@ impl Item {
     {
         let kind = self.kind as u32;
         let number = self.number as u32;
-        kind * 65536 + number
+        kind * Item::KIND_PLACE + number
     }
 
     // How many items there is room for in a lent trace.

@@ -11,4 +11,4 @@ unfolding starting_from
 returns-then-h-t c = no-segment _ (c.args.t.0 + 1) c.args.h.segments refl (omega (arith, c.if-h-t.true))
 
 pub returns : goal.returns
-returns c = rw (c.byte_of.ensures, c.byte_of-2.ensures) at c.starting.ensures
+returns c = rw c.start_of-start.ensures at c.starting.ensures
