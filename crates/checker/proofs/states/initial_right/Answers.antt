@@ -8,13 +8,12 @@ use Rattle.checker.proofs.states.initial_right.Goals as goal
 
 pub returns-then-kind-eq-ONE_OF : goal.returns-then-kind-eq-ONE_OF
 unfolding initial_right when◌then◌else◌
-returns-then-kind-eq-ONE_OF c = let s = c.before.before.before.before.before in
-    rw (
-      c.is_child.ensures,
-      children-read s.args.chart.now s.args.s.0 s.requires,
-      c.initial-initial.ensures,
-      eq-eqb _ 1 (sym c.kind.ensures ∙ c.if-kind-eq-ONE_OF.true),
-    )
+returns-then-kind-eq-ONE_OF c = rw (
+  c.is_child.ensures,
+  children-read c.args.chart.now c.args.s.0 c.requires,
+  c.initial-initial.ensures,
+  eq-eqb _ 1 (sym c.kind.ensures ∙ c.if-kind-eq-ONE_OF.true),
+)
 
 pub returns-else-kind-eq-ONE_OF : goal.returns-else-kind-eq-ONE_OF
 unfolding initial_right when◌then◌else◌
