@@ -2,6 +2,7 @@
 use mathlib.Core.Path.{◌≡◌, refl, sym, ap, ◌∙◌}
 use mathlib.Core.List.{[]}
 use Prim.Native.Nat.{ℕ, zero, suc, ◌+◌, ◌*◌}
+use Rattle.std.specs.Prelude.{Result, Ok, Err}
 use native.Mathlib.Omega.{arith}
 use Rattle.rules.specs.Lists.{◌else◌}
 use Rattle.rules.specs.Chart.{Chart}
@@ -9,10 +10,9 @@ use Rattle.rules.specs.Accept.{chart_refusal}
 use Rattle.rules.specs.Doing.{because}
 use Rattle.rules.specs.Bound.{bound, bound_refusal}
 use Rattle.rules.specs.Calls.{number_only, unless_refused, bound_call, Observed, packed, observed}
-use Rattle.doing.specs.declared.Refusal.{Refusal}
+use Rattle.rules.specs.declared.refusals.Refusal.{Refusal}
 use Rattle.bound.specs.Sums.{BoundAnswer, bounded_of, bound_told, bound_answer}
-use Rattle.bound.specs.declared.Bounded.{Bounded}
-use Rattle.bound.specs.declared.Bounded.TheVariants.{Refused, By}
+use Rattle.afraulenc.specs.Parts.{told_of}
 
 abbrev told : ℕ → Observed
 told n = record { answer = n; board = []; trace = [] }
@@ -41,15 +41,15 @@ module _ (c : Chart) where
   pub bound-unchecked : {r : ℕ} → r ≡ chart_refusal c → (r ≡ 0 → ⊥) → told r ≡ observed (bound_call c)
   bound-unchecked e wrong = refused-first _ e wrong
 
-  module _ (taken : 0 ≡ chart_refusal c) (b : Bounded) (says : bounded_of b ≡ bound_answer c) where
-    answered : told (packed_bound (bounded_of b)) ≡ observed (bound_call c)
-    unfolding bound_call bound_answer ◌else◌
-    answered = rw (← taken) (ap (λ (a : BoundAnswer). told (packed_bound a)) says ∙ sym (bounded c (bound_refusal c)))
+-- the bound's answer, packed
+as-packed : (b : Result ℕ Refusal) → told_of (λ n. 256 * n) b ≡ packed_bound (bounded_of b)
+unfolding because
+as-packed (Ok n) = omega arith
+as-packed (Err r) = omega arith
 
-    pub bound-refused : {r : Refusal} → b ≡ Refused r → told r.number ≡ observed (bound_call c)
-    unfolding because
-    bound-refused {r} w = ap told (let q : r.number ≡ r.number + 256 * 0 = omega arith in q) ∙ (rw w at answered)
-
-    pub bound-told : {n : ℕ} → b ≡ By n → told (256 * n) ≡ observed (bound_call c)
-    unfolding because
-    bound-told {n = n} w = ap told (let q : 256 * n ≡ 0 + 256 * n = omega arith in q) ∙ (rw w at answered)
+pub bound-told : (c : Chart) → 0 ≡ chart_refusal c → (b : Result ℕ Refusal) → bounded_of b ≡ bound_answer c
+    → told (told_of (λ n. 256 * n) b) ≡ observed (bound_call c)
+unfolding bound_call bound_answer ◌else◌
+bound-told c taken b says =
+    rw (← taken)
+    (ap told (as-packed b) ∙ ap (λ (a : BoundAnswer). told (packed_bound a)) says ∙ sym (bounded c (bound_refusal c)))

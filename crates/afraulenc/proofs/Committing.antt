@@ -1,43 +1,36 @@
--- What is handed on: a list copied place by place, items written as bytes one after the other, and a step on copies by how
--- it went. Assumes nothing.
-use mathlib.Core.Path.{◌≡◌, refl, sym, ◌∙◌}
+-- What is handed on: items written as bytes one after the other, and a step on copies by how it went. Assumes nothing.
+use mathlib.Core.Path.{◌≡◌, refl, sym, ap, ◌∙◌}
+use mathlib.Core.Bool.{true}
+use Rattle.std.specs.Prelude.{Result, Ok, Err}
+use Rattle.std.specs.Result.{IsErrAnd}
 use mathlib.Core.List.{List, [], ◌∷◌, ◌++◌, append_assoc, append-nil}
-use Prim.Native.Nat.{ℕ, suc, ◌+◌, ◌-◌, ◌*◌, ◌≤◌, ◌<◌}
+use Prim.Native.Nat.{ℕ, ◌+◌, ◌-◌, ◌*◌, ◌≤◌, ◌<◌}
 use native.Mathlib.Nat.{add-zero, zero-add}
 use native.Mathlib.Numerals.{add-one}
 use native.Mathlib.Omega.{arith}
-use lib.ListN.{length, take, drop, set, get_or, length-append, length-take, length-drop, length-replicate, drop_of_length-le}
-use lib.Seq.{length-take-le, take_all, take-suc, drop-cons, append_snoc, set_at, take_at, take-append-le, drop-append-add, drop-drop, sets-eq}
+use lib.ListN.{length, take, drop, get_or, replicate, length-append, length-drop, drop_of_length-le}
+use lib.Seq.{length-take-le, take_all, take-suc, take_at, drop-append-add, drop-drop, sets-eq}
 use Rattle.rules.specs.Bytes.{Bytes, bytes_of, put}
 use Rattle.rules.specs.Chart.{Chart}
-use Rattle.rules.specs.Image.{Image, image_size}
-use Rattle.rules.specs.Doing.{because, item_size, room_of}
+use Rattle.rules.specs.Accept.{chart_refusal}
+use Rattle.rules.specs.Image.{Image, image_size, accepted}
+use Rattle.rules.specs.Doing.{because, Now, went, item_size, room_of}
+use Rattle.rules.specs.Types.{number_of}
+use Rattle.rules.specs.declared.refusals.Refusal.{Refusal}
 use Rattle.rules.specs.Run.{step}
 use Rattle.rules.specs.Calls.{with_part, number_only, begin, item_bytes, step_answer, packed, observed}
 use Rattle.rules.proofs.ItemBytes.{items-length}
 use Rattle.rules.proofs.Spending.{step-spends}
 use Rattle.rules.proofs.Rooming.{step-rooms}
-use Rattle.doing.specs.Held.{now_of, outcome_of}
-use Rattle.doing.specs.declared.Refusal.{Refusal}
-use Rattle.doing.specs.declared.Counts.{Counts}
-use Rattle.doing.specs.declared.Done.{Done}
-use Rattle.doing.specs.declared.Done.TheVariants.{Refused, Went}
-use Rattle.doing.proofs.Laws.{went_on, was-refused}
-use Rattle.afraulenc.specs.Parts.{stepped_on}
-
--- the first i places copied
-abbrev pub copied : List ℕ → List ℕ → ℕ → List ℕ
-copied from to i = take i from ++ drop i to
-
-pub copied_more : (from to : List ℕ) (i : ℕ) → i < length from → i < length to
-    → set (copied from to i) i (get_or from i 0) ≡ copied from to (i + 1)
-copied_more from to i h k =
-    rw (drop-cons to i 0 k, set_at (take i from) (get_or to i 0) (drop (suc i) to) (get_or from i 0) i (length-take-le i from (omega arith)), add-one i, take-suc from i 0 h)
-    (sym (append_snoc (take i from) (get_or from i 0) (drop (suc i) to)))
-
-pub copied_all : (from to : List ℕ) (i : ℕ) → length to ≡ length from → i ≤ length from → length from ≤ i → copied from to i ≡ from
-copied_all from to i e h k =
-    rw (take_all i from k, drop_of_length-le to {i = i} (omega arith)) (append-nil from)
+use Rattle.rules.proofs.Stepping.{t-step}
+use Rattle.rules.proofs.Taken.{right}
+use Rattle.rules.proofs.BeyondCases.{accepted-length}
+use Rattle.doing.specs.Held.{now_of}
+use Rattle.doing.specs.Outcomes.{outcome_of}
+use Rattle.afraulenc.specs.Parts.{packed_of, told_of, stepped_on}
+use Rattle.afraulenc.specs.declared.Went.{Went}
+use Rattle.afraulenc.proofs.Telling.{err-told}
+use Rattle.afraulenc.proofs.Noting.{items-alone, step-notes}
 
 -- items as bytes
 items-append : (xs ys : List ℕ) → item_bytes (xs ++ ys) ≡ item_bytes xs ++ item_bytes ys
@@ -84,64 +77,71 @@ handed-all items trace i h k =
     let e : i ≡ length items = omega arith in
     rw (e, take_all (length items) items (omega arith))
 
--- a step that ran on copies: its answer, the image and the words that it left, as the rules have them
-pub record Ran (c : Chart) (part trace : Bytes) (e allowance : ℕ) (d : Done) (im : Image) (tr : List ℕ) : Type 0 where
-  pub outcome : outcome_of d im tr ≡ step c e (begin part trace allowance)
-  pub room : length tr ≡ room_of (length trace)
-
--- it began with the part's bytes, as many words as there is room for, and no items
-pub ran_on : (c : Chart) (part trace : Bytes) (e allowance : ℕ) (words : List ℕ) {n : ℕ} {d : Done} {image im : Image} {tr : List ℕ}
-    → length words ≡ 256 → n ≡ room_of (length trace) → image ≡ part
-    → outcome_of d im tr ≡ step c e (now_of image (take n words) (record { units = allowance; items = 0 }))
-    → length tr ≡ length (take n words) → Ran c part trace e allowance d im tr
+-- what the step began with: the part's bytes, as many words as there is room for, and no items
+pub begun : {part : Bytes} (trace : Bytes) {allowance : ℕ} {image : Image} {n : ℕ} {now : Now} → n ≡ room_of (length trace) → image ≡ part
+    → now ≡ now_of image (take n (replicate 256 0)) (record { units = allowance; items = 0 }) → now ≡ begin part trace allowance
 unfolding begin
-ran_on c part trace e allowance words {n} most many same told kept =
-    let lent : length (take n words) ≡ room_of (length trace) = length-take-le n words (omega arith) ∙ many in
-    let all : length (take n words) - 0 ≡ room_of (length trace) = omega arith in
-    let none : 0 - length (take n words) ≡ 0 = omega arith in
-    record { outcome = rw (same, all, none) at told; room = kept ∙ lent }
+begun trace {n = n} many same e =
+    let lent : length {A = ℕ} (take n (replicate 256 0)) ≡ room_of (length trace) = length-take-le n (replicate 256 0) (omega arith) ∙ many in
+    let all : length {A = ℕ} (take n (replicate 256 0)) - 0 ≡ room_of (length trace) = omega arith in
+    let none : 0 - length {A = ℕ} (take n (replicate 256 0)) ≡ 0 = omega arith in
+    e ∙ rw (same, all, none)
 
-module _ {c : Chart} {part trace : Bytes} {e allowance : ℕ} {d : Done} {im : Image} {tr : List ℕ}
-    (ran : Ran c part trace e allowance d im tr) where
-  pub refused-left : {r : Refusal} → d ≡ Refused r
-      → record { answer = r.number; board = part; trace = trace } ≡ stepped_on c part trace e allowance
-  unfolding stepped_on step_answer number_only observed packed because
-  refused-left {r} w = rw (was-refused im tr r ran.outcome w, add-zero r.number, add-zero r.number)
+-- a step that is refused
+pub refused-left : (c : Chart) (part trace : Bytes) (e allowance : ℕ) {r : Result (Unit {0}) Refusal} (n : Now) {n₀ : Now}
+    → outcome_of r n ≡ step c e n₀ → n₀ ≡ begin part trace allowance → {why : Refusal} → r ≡ Err why
+    → (all : Result Went Refusal) → IsErrAnd all (λ x. x ≡ why)
+    → record { answer = told_of packed_of all; board = part; trace = trace } ≡ stepped_on c part trace e allowance
+unfolding stepped_on step_answer number_only observed packed because
+refused-left c part trace e allowance n says from {why} is all told =
+    rw (err-told packed_of why all told, ← from, ← says, is, add-zero (number_of why), add-zero (number_of why))
 
-  module _ {k : Counts} (w : d ≡ Went k) where
-    pub spent : k.units ≤ allowance
+-- one that went on an accepted lift's part
+pub record Ended (c : Chart) (part trace : Bytes) (e allowance : ℕ) (n : Now) : Type 0 where
+  pub taken : chart_refusal c ≡ 0
+  pub right : accepted part c ≡ true
+  pub ends : step c e (begin part trace allowance) ≡ went tt n
+
+pub ended-by : {c : Chart} {part trace : Bytes} {e allowance : ℕ} → chart_refusal c ≡ 0 → accepted part c ≡ true
+    → {r : Result (Unit {0}) Refusal} {n n₀ : Now} → outcome_of r n ≡ step c e n₀ → n₀ ≡ begin part trace allowance
+    → {u : Unit {0}} → r ≡ Ok u → Ended c part trace e allowance n
+ended-by t a says from is = record { taken = t; right = a; ends = rw (← from, ← says, is) }
+
+module _ {c : Chart} {part trace : Bytes} {e allowance : ℕ} {n : Now} (ended : Ended c part trace e allowance n) where
+  pub spent : n.units ≤ allowance
+  unfolding begin
+  spent = (step-spends c e).at (begin part trace allowance) tt n ended.ends
+
+  -- the image is as long as it was
+  pub length-part : length part ≡ image_size
+  length-part = accepted-length part c ended.right
+
+  pub length-image : length n.image ≡ image_size
+  unfolding begin
+  length-image =
+      let good = (t-step c (right c ended.taken) e).at (begin part trace allowance) ended.right in
+      (rw ended.ends at good).0.sound.size
+
+  -- the items, no more than there is room for
+  module _ (items : List ℕ) (k : ℕ) (told : n.trace ≡ items ++ replicate k 0) where
+    same-items : items ≡ n.trace
     unfolding begin
-    spent = (step-spends c e).at (begin part trace allowance) tt (now_of im tr k) (went_on im tr k ran.outcome w)
+    same-items = items-alone items k (step-notes c e (begin part trace allowance) tt n ended.ends tt) told
 
-    -- the items are as many as there was room for, or fewer
-    noted : k.items ≤ length tr
+    within : length items ≤ room_of (length trace)
     unfolding begin
-    noted =
-        let all = step-rooms c e (begin part trace allowance) tt (now_of im tr k) (went_on im tr k ran.outcome w) in
-        omega (arith, ran.room, simp (length-append, length-take, length-replicate) at all)
+    within = let all = step-rooms c e (begin part trace allowance) tt n ended.ends in omega (arith, all, ap length same-items)
 
-    pub noted-most : k.items ≤ 256
-    noted-most = omega (arith, noted, ran.room)
+    pub items-fit : item_size * length items ≤ length trace
+    items-fit = omega (arith, within)
 
-    -- the words of the items, whatever stands past the room
-    module _ (rest : List ℕ) where
-      words : take k.items (tr ++ rest) ≡ take k.items tr
-      words = take-append-le k.items tr rest noted
+    pub items-most : length items ≤ 256
+    items-most = omega (arith, within)
 
-      pub noted-within : k.items ≤ length (tr ++ rest)
-      noted-within = rw length-append (omega (arith, noted))
-
-      pub noted-length : k.items ≡ length (take k.items (tr ++ rest))
-      noted-length = sym (rw words (length-take-le k.items tr noted))
-
-      pub noted-fits : item_size * length (take k.items (tr ++ rest)) ≤ length trace
-      noted-fits = omega (arith, noted, ran.room, noted-length)
-
-      pub went-left : {a : ℕ} {b t : Bytes} → length part ≡ image_size → a ≡ 256 * k.items + 131072 * (allowance - k.units) → b ≡ im
-          → t ≡ item_bytes (take k.items (tr ++ rest)) ++ drop (item_size * length (take k.items (tr ++ rest))) trace
-          → record { answer = a; board = b; trace = t } ≡ stepped_on c part trace e allowance
-      unfolding stepped_on step_answer observed packed because with_part
-      went-left ep ea eb et =
-          let none : k.items - length tr ≡ 0 = omega (arith, noted) in
-          let past : drop image_size part ≡ [] = drop_of_length-le part {i = image_size} (omega arith) in
-          rw (ea, eb, et, words, went_on im tr k ran.outcome w, none, append-nil (take k.items tr), length-take-le k.items tr noted, past, append-nil im, add-zero, zero-add)
+    pub went-left : {u : ℕ} {im b t : Bytes} → u ≡ n.units → im ≡ n.image → b ≡ im
+        → t ≡ item_bytes items ++ drop (item_size * length items) trace
+        → record { answer = 256 * length items + 131072 * (allowance - u); board = b; trace = t } ≡ stepped_on c part trace e allowance
+    unfolding stepped_on step_answer observed packed because with_part
+    went-left units image eb et =
+        let past : drop image_size part ≡ [] = drop_of_length-le part {i = image_size} (omega (arith, length-part)) in
+        rw (eb, et, image, units, same-items, ended.ends, past, append-nil n.image, add-zero, zero-add)

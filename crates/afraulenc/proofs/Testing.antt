@@ -11,6 +11,7 @@ use borrow.Rule.Slice.PartMut.{mid_of, put_mid, Post-is}
 use lib.Dec.{leb, ltb}
 use lib.ListN.{length, drop, take-append-drop, length-drop, drop_of_length-le}
 use lib.Seq.{length-take-le, drop-drop}
+use Rattle.std.specs.Prelude.{Option, Some, None}
 use Rattle.rules.specs.Bytes.{Bytes}
 use Rattle.rules.specs.Lists.{when◌then◌else◌, within, ◌else◌}
 use Rattle.rules.specs.Chart.{Chart, events}
@@ -20,26 +21,17 @@ use Rattle.rules.specs.Doing.{because, Outcome, refused, went, most_units}
 use Rattle.rules.specs.Types.{part_of, part_number}
 use Rattle.rules.specs.Calls.{Board, part, with_part, has_part, part_refusal, number_only, unless_refused, fresh_call, step_refusal, step_answer, step_call, Observed, packed, observed}
 use Rattle.rules.specs.declared.images.Image.{Image as Placed}
-use Rattle.rules.specs.declared.images.Part.{Part}
-use Rattle.rules.specs.declared.images.Part.TheVariants.{At, Missing}
-use Rattle.rules.specs.declared.headers.Header.{Header}
 use Rattle.rules.proofs.Laws.{both}
 use Rattle.rules.proofs.TypeNumbers.{part-number}
-use Rattle.chart.specs.Places.{header_of}
 use Rattle.afraulenc.specs.Parts.{stepped_on, part_tests, part_stepped}
 
--- a range as the code tests it
+-- a range, by the tests of its two ends
 pub in-range : (lo hi n : ℕ) (a b : Bool) → ltb n lo ≡ a → ltb hi n ≡ b → within lo hi n ≡ not (a || b)
 in-range lo hi n true b p q = let h = ltb-true n lo p in rw (lt-leb lo n h)
 in-range lo hi n false true p q = let h = ltb-false n lo p in let k = ltb-true hi n q in rw (le-leb lo n h, lt-leb n hi k)
 in-range lo hi n false false p q = let h = ltb-false n lo p in let k = ltb-false hi n q in rw (le-leb lo n h, le-leb n hi k)
 
--- the event, by the header's count
-pub event-tested : (c : Chart) (e : ℕ) {h : Header} {t : Bool} → h ≡ header_of c → (ltb e 1 || ltb h.events e) ≡ t
-    → within 1 (events c) e ≡ not t
-event-tested c e own test =
-    in-range 1 (events c) e (ltb e 1) (ltb (events c) e) refl refl ∙ ap not (rw own at test)
-
+-- an event that is in range
 pub event-below : (c : Chart) (e : ℕ) → within 1 (events c) e ≡ true → e ≤ events c
 event-below c e t = leb-true e (events c) (both (leb 1 e) (leb e (events c)) t).1
 
@@ -74,16 +66,16 @@ module _ (c : Chart) (im : Image) (trace : Bytes) (e allowance : ℕ) where
   all_tested a b h told = rw (a, b, le-leb allowance most_units h) told
 
 -- where a lift's part is, by what was found
-module _ (board : Board) (k : ℕ) {p : Part} (found : p ≡ part_of k (length board)) where
-  missing : p ≡ Missing → part_refusal board k ≡ 12
+module _ (board : Board) (k : ℕ) {p : Option Placed} (found : p ≡ part_of k (length board)) where
+  missing : p ≡ None → part_refusal board k ≡ 12
   unfolding part_number
   missing m = sym (part-number board k) ∙ ap part_number (sym found ∙ m)
 
-  there : {im : Placed} → p ≡ At im → part_refusal board k ≡ 0
+  there : {im : Placed} → p ≡ Some im → part_refusal board k ≡ 0
   unfolding part_number
   there a = sym (part-number board k) ∙ ap part_number (sym found ∙ a)
 
-  placed : {im : Placed} (t : Bool) → has_part (length board) k ≡ t → (when t then At (record { at = image_size * k }) else Missing) ≡ At im
+  placed : {im : Placed} (t : Bool) → has_part (length board) k ≡ t → (when t then Some (record { at = image_size * k }) else None) ≡ Some im
       → (im.at ≡ image_size * k) × (image_size * k + image_size ≤ length board)
   unfolding when◌then◌else◌
   placed {im} true has e =
@@ -91,7 +83,7 @@ module _ (board : Board) (k : ℕ) {p : Part} (found : p ≡ part_of k (length b
       (sym (ap (λ (x : Placed). x.at) q), leb-true (image_size * k + image_size) (length board) (both (leb k 63) (leb (image_size * k + image_size) (length board)) has).1)
   placed false has e = let z : ◌≡◌ {A = ℕ} 0 1 = cc in absurd (omega arith)
 
-  module _ {im : Placed} (a : p ≡ At im) where
+  module _ {im : Placed} (a : p ≡ Some im) where
     located : (im.at ≡ image_size * k) × (image_size * k + image_size ≤ length board)
     located = placed (has_part (length board) k) refl (sym found ∙ a)
 
@@ -161,12 +153,12 @@ module _ (c : Chart) (board : Board) (trace : Bytes) (k e allowance : ℕ) where
   unfolding step_refusal
   step-unchecked {r} told wrong = step-refused r (rw (← told) (first r _ wrong)) wrong
 
-  module _ (taken : 0 ≡ chart_refusal c) {p : Part} (found : p ≡ part_of k (length board)) where
-    pub step-missing : p ≡ Missing → record { answer = 12; board = board; trace = trace } ≡ observed (step_call c board trace k e allowance)
+  module _ (taken : 0 ≡ chart_refusal c) {p : Option Placed} (found : p ≡ part_of k (length board)) where
+    pub step-missing : p ≡ None → record { answer = 12; board = board; trace = trace } ≡ observed (step_call c board trace k e allowance)
     unfolding step_refusal ◌else◌
     step-missing m = step-refused 12 (rw (← taken, missing board k found m)) (λ w. omega arith)
 
-    pub step-there : {im : Placed} (a : p ≡ At im) {r : ℕ} {q t : Bytes}
+    pub step-there : {im : Placed} (a : p ≡ Some im) {r : ℕ} {q t : Bytes}
         → record { answer = r; board = q; trace = t } ≡ part_stepped c (mid_of im.at (im.at + image_size - im.at) board) trace e allowance
         → record { answer = r; board = put_mid im.at (im.at + image_size - im.at) board q; trace = t } ≡ observed (step_call c board trace k e allowance)
     unfolding step_call step_refusal ◌else◌ part_stepped part_tests
@@ -188,12 +180,12 @@ module _ (c : Chart) (board : Board) (k : ℕ) where
       → record { answer = r; board = board; trace = [] } ≡ observed (fresh_call c board k)
   fresh-unchecked {r} told wrong = fresh-refused r (rw (← told) (first r _ wrong)) wrong
 
-  module _ (taken : 0 ≡ chart_refusal c) {p : Part} (found : p ≡ part_of k (length board)) where
-    pub fresh-missing : p ≡ Missing → record { answer = 12; board = board; trace = [] } ≡ observed (fresh_call c board k)
+  module _ (taken : 0 ≡ chart_refusal c) {p : Option Placed} (found : p ≡ part_of k (length board)) where
+    pub fresh-missing : p ≡ None → record { answer = 12; board = board; trace = [] } ≡ observed (fresh_call c board k)
     unfolding ◌else◌
     fresh-missing m = fresh-refused 12 (rw (← taken, missing board k found m)) (λ w. omega arith)
 
-    pub fresh-there : {im : Placed} (a : p ≡ At im) {q : Bytes} → q ≡ fresh_image c
+    pub fresh-there : {im : Placed} (a : p ≡ Some im) {q : Bytes} → q ≡ fresh_image c
         → record { answer = 0; board = put_mid im.at (im.at + image_size - im.at) board q; trace = [] } ≡ observed (fresh_call c board k)
     unfolding fresh_call unless_refused ◌else◌ observed packed number_only because
     fresh-there a {q} made = rw (back board k found a q, ← taken, there board k found a, made)

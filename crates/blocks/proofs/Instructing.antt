@@ -1,44 +1,48 @@
 -- One instruction, as the rules perform it: one law for each way in which the code answers. Assumes nothing.
 use mathlib.Core.Path.{◌≡◌, refl, sym}
 use mathlib.Core.Bool.{Bool, true, false}
+use mathlib.Core.List.{[], ◌∷◌}
+use mathlib.Core.Logic.{◌⊎◌, inl, inr}
 use Prim.Native.Nat.{ℕ}
 use lib.ListN.{drop}
 use lib.IntN.{ℤ}
+use Rattle.std.specs.Prelude.{Option, Some, None, Result, Ok, Err, ok_or}
+use Rattle.std.specs.Result.{IsErrAnd, result_ok}
+use Rattle.std.proofs.lemmas.Result.{err_from_is_err_and}
 use Rattle.rules.specs.Bytes.{truth, is_zero}
 use Rattle.rules.specs.Lists.{when◌then◌else◌}
 use Rattle.rules.specs.Chart.{Instruction}
-use Rattle.rules.specs.Chart as op
-use Rattle.rules.specs.Image.{Image, variable, set_variable}
-use Rattle.rules.specs.Doing.{Refusal, because, Now, refused, went, Doing, give, refuse, ◌>>=◌, ◌>>◌, look, change, note, output_raised}
+use Rattle.rules.specs.Image.{variable, set_variable}
+use Rattle.rules.specs.Doing.{Now, went, Doing, give, refuse, after, ◌>>=◌, ◌>>◌, look, change, note}
 use Rattle.rules.specs.Block.{Stack, Ran, ran, top, lower, ◌onto◌, binary, checked, divided, no_send, instruct}
+use Rattle.rules.specs.Types.{word_of}
+use Rattle.rules.specs.declared.items.Item.TheVariants.{Raised}
+use Rattle.rules.specs.declared.refusals.Refusal.{Refusal}
+use Rattle.rules.specs.declared.refusals.Refusal.TheVariants.{Arithmetic}
 use Rattle.chart.specs.Read.{op_meant}
 use Rattle.chart.specs.declared.ops.Op.{Op}
-use Rattle.chart.specs.declared.ops.Op.TheVariants.{Push, Load, Store, Not, Send, Unknown}
-use Rattle.blocks.specs.declared.values.Checked.{Checked}
-use Rattle.blocks.specs.declared.values.Checked.TheVariants.{Is, Outside}
+use Rattle.chart.specs.declared.ops.Op.TheVariants.{Push, Load, Store, Not, Raise, Send, Unknown}
+use Rattle.doing.specs.Held.{noted}
+use Rattle.doing.specs.Outcomes.{outcome_of, with_image}
 use Rattle.blocks.specs.declared.values.Binary.{Binary}
 use Rattle.blocks.specs.declared.values.Binary.TheVariants.{Add, Subtract, Multiply, Quotient, Remainder, Less, Equal}
 use Rattle.blocks.specs.Code.{instructed}
+use Rattle.blocks.specs.Performed.{ran_of}
 use Rattle.blocks.specs.Values.{within32, quotient_of, remainder_of, combined, binary_meant}
 
--- a value is given onto a stack
-pub given : (n : Now) (v : ℤ) (st more : Stack) → more ≡ (v onto st) → went (ran more) n ≡ give (ran (v onto st)) n
-unfolding give
-given n v st more e = rw e
-
 -- what a binary op makes of its answer
-unfoldable pub answered : Stack → Checked → Doing Ran
-answered st (Is v) = give (ran (v onto drop 2 st))
-answered st Outside = refuse 17
+unfoldable pub answered : Stack → Option ℤ → Doing Ran
+answered st (Some v) = give (ran (v onto drop 2 st))
+answered st None = refuse 17
 
 if-within : (st : Stack) (z : ℤ) (b : Bool)
-    → (when b then give (ran (z onto drop 2 st)) else refuse 17) ≡ answered st (when b then Is z else Outside)
+    → (when b then give (ran (z onto drop 2 st)) else refuse 17) ≡ answered st (when b then Some z else None)
 unfolding when◌then◌else◌ answered
 if-within st z true = refl
 if-within st z false = refl
 
-if-divided : (st : Stack) (m : Doing Ran) (x : Checked) → m ≡ answered st x
-    → (b : Bool) → (when b then refuse 17 else m) ≡ answered st (when b then Outside else x)
+if-divided : (st : Stack) (m : Doing Ran) (x : Option ℤ) → m ≡ answered st x
+    → (b : Bool) → (when b then refuse 17 else m) ≡ answered st (when b then None else x)
 unfolding when◌then◌else◌ answered
 if-divided st m x e true = refl
 if-divided st m x e false = e
@@ -54,36 +58,46 @@ answers Remainder i st = if-divided st _ _ refl _
 answers Less i st = refl
 answers Equal i st = refl
 
-module _ (o : Binary) (i : Instruction) (st : Stack) (n : Now) {r : Checked} (answer : r ≡ combined o (lower st) (top st)) where
-  pub binary-is : (v : ℤ) (rest : Stack) → r ≡ Is v → rest ≡ drop 2 st
-      → give (ran (v onto rest)) n ≡ instruct no_send (binary_meant o) i st n
-  unfolding answered
-  binary-is v rest is less = rw (less, answers o i st, sym answer, is)
+-- the second value is the top of what the first leaves
+pub lower-is : (st : Stack) → top (drop 1 st) ≡ lower st
+unfolding top lower
+lower-is [] = refl
+lower-is (x ∷ st) = refl
 
-  pub binary-outside : r ≡ Outside → refused (because 17) ≡ instruct no_send (binary_meant o) i st n
-  unfolding answered refuse
-  binary-outside is = rw (answers o i st, sym answer, is)
+two-less : (st : Stack) → drop 1 (drop 1 st) ≡ drop 2 st
+two-less [] = refl
+two-less (x ∷ st) = refl
 
--- one thing done after another: the first is refused, or the second goes on from what it leaves
-module _ {A B : Type 0} (m : Doing A) (f : Doing B) (n : Now) where
-  pub then-refused : {r : Refusal} → m n ≡ refused r → refused r ≡ (m >> f) n
-  unfolding ◌>>◌
-  then-refused e = rw e
+-- the error where there is none
+the-error : {r : Option ℤ} {told : Result ℤ Refusal} → told ≡ ok_or r Arithmetic → r ≡ None → {why : Refusal} → told ≡ Err why → why ≡ Arithmetic
+the-error {r} {told} value none err =
+    let two : told ≡ Err Arithmetic = rw none at value in cc
 
-  pub then-goes : {a : A} {later : Now} → m n ≡ went a later → f later ≡ (m >> f) n
-  unfolding ◌>>◌
-  then-goes e = rw e
+-- the values of the stack that are combined, and their answer, an error where there is none
+module _ (o : Binary) (i : Instruction) (st : Stack) (n : Now) {x y : ℤ} {less rest : Stack} (upper : y ≡ top st) (less-is : less ≡ drop 1 st)
+    (below : x ≡ top less) (rest-is : rest ≡ drop 1 less) {r : Option ℤ} (is : r ≡ combined o x y) where
+  combines : answered st r n ≡ instruct no_send (binary_meant o) i st n
+  combines = rw (answers o i st, is, upper, below, less-is, lower-is st)
 
--- an output is raised: the item is noted or not
-module _ (i : Instruction) (st : Stack) (n : Now) (output : ℕ) (same : i.a ≡ output) where
-  pub raise-went : {later : Now} → note output_raised output n ≡ went tt later
-      → went (ran st) later ≡ instruct no_send op.raise i st n
-  unfolding instruct give
-  raise-went e = rw same (then-goes (note output_raised output) (give (ran st)) n e)
+  module _ {told : Result ℤ Refusal} (some : r ≡ result_ok told) where
+    pub binary-is : {v : ℤ} → told ≡ Ok v → {more : Stack} → more ≡ (v onto rest)
+        → went (ran more) n ≡ instruct no_send (binary_meant o) i st n
+    unfolding answered give
+    binary-is ok e = rw (e, rest-is, less-is, two-less st) (rw (some, ok) at combines)
 
-  pub raise-refused : {r : Refusal} → note output_raised output n ≡ refused r → refused r ≡ instruct no_send op.raise i st n
-  unfolding instruct
-  raise-refused e = rw same (then-refused (note output_raised output) (give (ran st)) n e)
+    pub binary-outside : {why : Refusal} → told ≡ Err why → told ≡ ok_or r Arithmetic → (all : Result (Unit {0}) Refusal) (more : Stack)
+        → IsErrAnd all (λ e. e ≡ why) → ran_of all more n ≡ instruct no_send (binary_meant o) i st n
+    unfolding answered refuse
+    binary-outside err value all more same =
+        let p = err_from_is_err_and all same in
+        let none : r ≡ None = rw err at some in
+        rw (p.1, p.2, the-error value none err) (rw none at combines)
+
+-- an item is noted or not, and the stack stays
+stays : (r : Result (Unit {0}) Refusal) (st : Stack) (n : Now) → ran_of r st n ≡ after (outcome_of r n) (λ _. give (ran st))
+unfolding give
+stays (Err why) st n = refl
+stays (Ok u) st n = refl
 
 -- each by its op, which the code tells
 module _ (i : Instruction) (st : Stack) (n : Now) {p : Op} (means : op_meant p ≡ i.op) where
@@ -91,29 +105,38 @@ module _ (i : Instruction) (st : Stack) (n : Now) {p : Op} (means : op_meant p �
   unfolding instructed
   as-told told = rw (sym means, told)
 
-  pub pushed : {v : ℤ} → p ≡ Push → v ≡ i.b → give (ran (v onto st)) n ≡ instructed i st n
-  unfolding instruct
-  pushed told e = rw e (as-told told)
+  pub pushed : {v : ℤ} {more : Stack} → p ≡ Push → v ≡ i.b → more ≡ (v onto st) → went (ran more) n ≡ instructed i st n
+  unfolding instruct give
+  pushed told e over = rw (over, e) (as-told told)
 
-  pub loaded : {v : ℤ} {a : ℕ} → p ≡ Load → v ≡ variable n.image a → a ≡ i.a → give (ran (v onto st)) n ≡ instructed i st n
+  pub loaded : {v : ℤ} {a : ℕ} {more : Stack} → p ≡ Load → v ≡ variable n.image a → a ≡ i.a → more ≡ (v onto st)
+      → went (ran more) n ≡ instructed i st n
   unfolding instruct ◌>>=◌ look give
-  loaded told e same = rw (e, same) (as-told told)
+  loaded told e same over = rw (over, e, same) (as-told told)
 
-  pub stored : {later : Image} {a : ℕ} {rest : Stack} → p ≡ Store → later ≡ set_variable n.image a (top st) → a ≡ i.a
-      → rest ≡ drop 1 st
-      → went (ran rest) (record { image = later; units = n.units; room = n.room; trace = n.trace }) ≡ instructed i st n
+  pub stored : {later : Now} {z : ℤ} {a : ℕ} {rest : Stack} → p ≡ Store → later ≡ with_image (set_variable n.image a z) n → z ≡ top st
+      → a ≡ i.a → rest ≡ drop 1 st → went (ran rest) later ≡ instructed i st n
   unfolding instruct change ◌>>◌ give
-  stored told e same less = rw (e, same, less) (as-told told)
+  stored told set e same less = rw (set, e, same, less) (as-told told)
 
-  pub negated : {v : ℤ} {rest : Stack} → p ≡ Not → v ≡ truth (is_zero (top st)) → rest ≡ drop 1 st
-      → give (ran (v onto rest)) n ≡ instructed i st n
-  unfolding instruct
-  negated told e less = rw (e, less) (as-told told)
+  pub negated : {v z : ℤ} {rest more : Stack} → p ≡ Not → v ≡ truth (is_zero z) → z ≡ top st → rest ≡ drop 1 st → more ≡ (v onto rest)
+      → went (ran more) n ≡ instructed i st n
+  unfolding instruct give
+  negated told e is less over = rw (over, e, is, less) (as-told told)
 
-  pub barred : p ≡ Send → went (ran st) n ≡ instructed i st n
+  pub raised : (r : Result (Unit {0}) Refusal) (later : Now) {a : ℕ} → p ≡ Raise → outcome_of r later ≡ noted (word_of (Raised a)) n
+      → a ≡ i.a → ran_of r st later ≡ instructed i st n
+  unfolding instruct ◌>>◌ noted note
+  raised r later told e same = rw (stays r st later, e, same) (as-told told)
+
+  barred : p ≡ Send → went (ran st) n ≡ instructed i st n
   unfolding instruct no_send ◌>>=◌ give when◌then◌else◌
   barred told = as-told told
 
-  pub ignored : p ≡ Unknown → went (ran st) n ≡ instructed i st n
+  ignored : p ≡ Unknown → went (ran st) n ≡ instructed i st n
   unfolding instruct give
   ignored told = as-told told
+
+  pub nothing-done : (p ≡ Send) ⊎ (p ≡ Unknown) → went (ran st) n ≡ instructed i st n
+  nothing-done (inl told) = barred told
+  nothing-done (inr told) = ignored told

@@ -14,7 +14,7 @@ use mir.Val.{SFits, to_z, of_z}
 use mir.ValLaws.{to_z-of_z}
 use Rattle.rules.specs.Lists.{when◌then◌else◌}
 use Rattle.rules.specs.Chart.{stack_places}
-use Rattle.rules.specs.Block.{◌onto◌}
+use Rattle.rules.specs.Block.{top, ◌onto◌}
 use Rattle.blocks.specs.Stacks.{stack_of}
 
 pub stack-length : (cells : List ℤ) (n : ℕ) → length (stack_of cells n) ≡ n
@@ -29,12 +29,23 @@ value-at cells zero k h = absurd (omega arith)
 value-at cells (suc n) zero h = let e : suc n - 1 ≡ n = omega arith in rw e
 value-at cells (suc n) (suc k) h = let e : suc n - suc (suc k) ≡ n - suc k = omega arith in rw e (value-at cells n k (omega arith))
 
-pub value-past : (cells : List ℤ) (n k : ℕ) → n ≤ k → get_or (stack_of cells n) k (pos 0) ≡ pos 0
+value-past : (cells : List ℤ) (n k : ℕ) → n ≤ k → get_or (stack_of cells n) k (pos 0) ≡ pos 0
 value-past cells n k h = get_or-eq_default (stack_of cells n) (pos 0) (rw (stack-length cells n) h)
 
 -- as the machine reads it
-pub read_at : (cells : List ℤ) (n k : ℕ) → SFits w32 (get_or cells (n - suc k) (pos 0)) → k < n → to_z w32 (of_z w32 (get_or cells (n - suc k) (pos 0))) ≡ get_or (stack_of cells n) k (pos 0)
+read_at : (cells : List ℤ) (n k : ℕ) → SFits w32 (get_or cells (n - suc k) (pos 0)) → k < n
+    → to_z w32 (of_z w32 (get_or cells (n - suc k) (pos 0))) ≡ get_or (stack_of cells n) k (pos 0)
 read_at cells n k f h = to_z-of_z w32 (get_or cells (n - suc k) (pos 0)) f ∙ sym (value-at cells n k h)
+
+-- the top, and 0 where there is none
+pub top-none : (cells : List ℤ) (n : ℕ) → n ≡ 0 → pos 0 ≡ top (stack_of cells n)
+unfolding top
+top-none cells n e = sym (value-past cells n 0 (omega (arith, e)))
+
+pub top-read : (cells : List ℤ) (n : ℕ) → SFits w32 (get_or cells (n - 1) (pos 0)) → (n ≡ 0 → ⊥)
+    → to_z w32 (of_z w32 (get_or cells (n - 1) (pos 0))) ≡ top (stack_of cells n)
+unfolding top
+top-read cells n f some = read_at cells n 0 f (omega (arith, some))
 
 -- the stack without its top k
 pub stack-drop : (cells : List ℤ) (k n : ℕ) → stack_of cells (n - k) ≡ drop k (stack_of cells n)
@@ -43,17 +54,20 @@ stack-drop cells zero n = let e : n - 0 ≡ n = omega arith in rw e
 stack-drop cells (suc k) zero = let e : 0 - suc k ≡ 0 = omega arith in rw e
 stack-drop cells (suc k) (suc n) = let e : suc n - suc k ≡ n - k = omega arith in rw e (stack-drop cells k n)
 
-pub without : (k n r : ℕ) → r ≡ n - k → (r ≤ n) × ((cells : List ℤ) → stack_of cells r ≡ drop k (stack_of cells n))
-without k n r e = (omega arith, λ cells. rw e (stack-drop cells k n))
+-- an empty one stays
+pub none-dropped : (cells : List ℤ) (n : ℕ) → n ≡ 0 → stack_of cells n ≡ drop 1 (stack_of cells n)
+unfolding stack_of
+none-dropped cells n e = rw e
 
 -- a store above the stack leaves it
-pub stack_above : (cells : List ℤ) (m n : ℕ) (v : ℤ) → n ≤ m → stack_of (set cells m v) n ≡ stack_of cells n
+stack_above : (cells : List ℤ) (m n : ℕ) (v : ℤ) → n ≤ m → stack_of (set cells m v) n ≡ stack_of cells n
 unfolding stack_of
 stack_above cells m zero v h = refl
 stack_above cells m (suc n) v h = rw (get_or-set_other cells m n v (pos 0) (λ e. omega arith), stack_above cells m n v (omega arith))
 
 -- a store on top of it; or no cell is left
-pub pushed : (cells : List ℤ) (n : ℕ) (v : ℤ) → length cells ≡ stack_places → n < stack_places → stack_of (set cells n v) (n + 1) ≡ (v onto stack_of cells n)
+pub pushed : (cells : List ℤ) (n : ℕ) (v : ℤ) → length cells ≡ stack_places → n < stack_places
+    → stack_of (set cells n v) (n + 1) ≡ (v onto stack_of cells n)
 unfolding stack_of ◌onto◌ when◌then◌else◌
 pushed cells n v l h =
     let room : n < length cells = omega arith in

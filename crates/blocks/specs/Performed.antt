@@ -1,14 +1,11 @@
 -- What an instruction or a block answers, as the rules have it. Assumes nothing.
-use Rattle.std.specs.Prelude.{List, ℕ, ℤ}
-use Rattle.rules.specs.Image.{Image}
-use Rattle.rules.specs.Doing.{Outcome, refused, went}
-use Rattle.rules.specs.Block.{Ran, ran}
-use Rattle.doing.specs.Held.{refusal_of, now_of}
-use Rattle.blocks.specs.Stacks.{stack_of}
-use Rattle.blocks.specs.declared.instruct.Performed.{Performed}
-use Rattle.blocks.specs.declared.instruct.Performed.TheVariants as performed
+use Rattle.std.specs.Prelude.{Result, Ok, Err}
+use Rattle.rules.specs.Doing.{Now, Outcome, refused, went}
+use Rattle.rules.specs.Block.{Stack, Ran, ran}
+use Rattle.rules.specs.declared.refusals.Refusal.{Refusal}
+use Rattle.doing.specs.Outcomes.{refusal_of}
 
--- an answer, with the cells, the image and the trace that it leaves
-abbrev pub ran_of : Performed → List ℤ → Image → List ℕ → Outcome Ran
-ran_of (performed.Refused r) cells im tr = refused (refusal_of r)
-ran_of (performed.Ran l) cells im tr = went (ran (stack_of cells l.taken)) (now_of im tr l.counts)
+-- an answer, with the stack and the rest that it leaves
+abbrev pub ran_of : Result (Unit {0}) Refusal → Stack → Now → Outcome Ran
+ran_of (Err r) st n = refused (refusal_of r)
+ran_of (Ok u) st n = went (ran st) n

@@ -2,6 +2,6 @@
 #![tactic(auto)]
 
 pub mod values; // arithmetic on signed 32-bit values
-pub mod stack; // the value stack, lent
+pub mod stack; // the value stack
 pub mod instruct; // one instruction
 pub mod action; // a block

@@ -1,48 +1,70 @@
-// The value stack: cells that are lent, and how many of them are taken.
-ghost use Rattle.std.specs.Prelude.{◌≡◌, List, ◌≤◌, ℤ};
-ghost use Rattle.std.proofs.Math.ListN as list;
-ghost use Rattle.rules.specs.Chart.{stack_places};
-ghost use Rattle.rules.specs.Block as rules;
-ghost use Rattle.rules.specs.Block.{◌onto◌};
-ghost use Rattle.blocks.specs.Stacks.{stack_of, Cells};
-
+// The value stack of a block. A contract sees its values, the top first.
 use chart::blocks::Block;
+use std::marker::Model;
 
-pub fn top(cells: &[i32], taken: usize) -> i32
-    requires { Cells cells.now taken }
-    ensures { result ≡ rules.top (stack_of cells.now taken) }
-{
-    if taken < 1 { 0 } else { cells[taken - 1] }
+#[derive(Drop)]
+pub struct Stack {
+    cells: [i32; Block::CELLS],
+    taken: usize,
 }
 
-pub fn lower(cells: &[i32], taken: usize) -> i32
-    requires { Cells cells.now taken }
-    ensures { result ≡ rules.lower (stack_of cells.now taken) }
-{
-    if taken < 2 { 0 } else { cells[taken - 2] }
+impl Model for Stack {
+    ghost use Rattle.std.specs.Prelude.{◌≤◌};
+    ghost use Rattle.rules.specs.Chart.{stack_places};
+    ghost use Rattle.rules.specs.Block as rules;
+    ghost use Rattle.blocks.specs.Stacks.{stack_of};
+
+    ghost Value = { rules.Stack };
+
+    ghost view = { λ s. stack_of s.cells s.taken };
+
+    ghost invariant = { λ s. s.taken ≤ stack_places };
 }
 
-// How many are taken without the top one, and without the top two.
-pub fn without_top(taken: usize) -> usize
-    ensures { (result ≤ taken) × ((cells : List ℤ) → stack_of cells result ≡ list.drop 1 (stack_of cells taken)) }
-{
-    if taken < 1 { 0 } else { taken - 1 }
-}
+impl Stack {
+    ghost use Rattle.std.specs.Prelude.{◌≡◌, []};
+    ghost use Rattle.std.proofs.Math.ListN as list;
+    ghost use Rattle.rules.specs.Block as rules;
+    ghost use Rattle.rules.specs.Block.{◌onto◌};
 
-pub fn without_two(taken: usize) -> usize
-    ensures { (result ≤ taken) × ((cells : List ℤ) → stack_of cells result ≡ list.drop 2 (stack_of cells taken)) }
-{
-    if taken < 2 { 0 } else { taken - 2 }
-}
-
-// A value goes on top, where a cell is left; how many are taken then.
-pub fn push(cells: &mut [i32], taken: usize, value: i32) -> usize
-    requires { Cells cells.old taken }
-    ensures { (result ≤ stack_places) × (stack_of cells.new result ≡ (value onto stack_of cells.old taken)) }
-{
-    if taken < Block::STACK as usize {
-        cells[taken] = value;
-        return taken + 1;
+    pub fn new() -> Stack
+        ensures { result ≡ [] }
+    {
+        Stack {
+            cells: [0; Block::CELLS],
+            taken: 0,
+        }
     }
-    taken
+
+    // The top value, 0 where there is none.
+    pub fn top(&self) -> i32
+        ensures { result ≡ rules.top self.now }
+    {
+        if self.taken == 0 {
+            return 0;
+        }
+        self.cells[self.taken - 1]
+    }
+
+    // The same, and it is taken off.
+    pub fn pop(&mut self) -> i32
+        ensures value { result ≡ rules.top self.old }
+        ensures rest { self.new ≡ list.drop 1 self.old }
+    {
+        if self.taken == 0 {
+            return 0;
+        }
+        self.taken -= 1;
+        self.cells[self.taken]
+    }
+
+    // A value goes on top, where a cell is left.
+    pub fn push(&mut self, value: i32)
+        ensures { self.new ≡ (value onto self.old) }
+    {
+        if self.taken < Block::CELLS {
+            self.cells[self.taken] = value;
+            self.taken += 1;
+        }
+    }
 }

@@ -1,18 +1,15 @@
 -- What the bound adds up, of the blocks that were read: up to the limit it is the sum of what the code adds.
 -- Assumes nothing.
-use mathlib.Core.Path.{◌≡◌, refl, sym, ap, ◌∙◌}
-use mathlib.Core.Bool.{Bool}
+use mathlib.Core.Path.{◌≡◌, refl, ap, ◌∙◌}
 use mathlib.Core.List.{List}
 use Prim.Native.Nat.{ℕ, ◌+◌, ◌<◌}
 use native.Mathlib.Numerals.{add-one}
 use native.Mathlib.Omega.{arith}
 use Rattle.rules.specs.Bytes.{byte}
 use Rattle.rules.specs.Lists.{below, keep, sum_over}
-use Rattle.rules.specs.Chart.{Chart, Block, State, Segment, block_at, states, junctions, segments, entry, during, exit, transition_action, starts_at, outer, inner}
+use Rattle.rules.specs.Chart.{Chart, Block, State, Segment, states, junctions, segments, entry, during, exit, transition_action, starts_at, outer, inner}
 use Rattle.rules.specs.Bound.{W, G, bound}
-use Rattle.rules.specs.declared.headers.Header.{Header}
-use Rattle.chart.specs.Places.{header_of, segment_place}
-use Rattle.chart.specs.Read.{block_of, starts_in}
+use Rattle.chart.specs.Read.{block_of}
 use Rattle.chart.specs.declared.blocks.Block.{Block as CodeBlock}
 use Rattle.bound.specs.Sums.{capped, weight_on, weights_within, state_run}
 use Rattle.bound.proofs.Capping.{run-capped, add-capped, capped-once, sum-capped}
@@ -48,9 +45,8 @@ module _ (c : Chart) (s : State) {a b : CodeBlock} where
   pub state-moved : block_of a ≡ entry c s → block_of b ≡ exit c s → 2 + a.count + b.count ≡ state_moves c s
   state-moved p q = omega (arith, ap (λ (k : Block). k.count) p, ap (λ (k : Block). k.count) q)
 
-pub segment-moved : (c : Chart) (t : Segment) {h : Header} → h ≡ header_of c → {a : CodeBlock}
-    → block_of a ≡ block_at c (segment_place h t + 15) → a.count ≡ segment_moves c t
-segment-moved c t own p = ap (λ (k : Block). k.count) p ∙ rw own
+pub segment-moved : (c : Chart) (t : Segment) {a : CodeBlock} → block_of a ≡ transition_action c t → a.count ≡ segment_moves c t
+segment-moved c t p = ap (λ (k : Block). k.count) p
 
 pub state-run : (c : Chart) (sums : List ℕ) (s : State) {a : CodeBlock} → block_of a ≡ during c s → (moves : ℕ) {o i u r v : ℕ}
     → o ≡ capped (sum_over (weight_on c sums) (keep (starts_at c 0 s) (below (segments c))))
@@ -66,8 +62,3 @@ all-moves c e = e
 pub all-states : (c : Chart) {n : ℕ} → n ≡ capped (sum_over (state_bound c) (below (states c))) → n ≡ capped (bound c)
 unfolding bound
 all-states c e = e
-
--- a segment that starts there, as it was read
-pub own-starts : (c : Chart) {h : Header} → h ≡ header_of c → (k n : ℕ) (t : Segment) {r : Bool} → r ≡ starts_in c h k n t → starts_at c k n t ≡ r
-unfolding starts_at
-own-starts c own k n t e = sym (e ∙ rw own)

@@ -2,7 +2,7 @@
 use mathlib.Core.Path.{◌≡◌, refl, ap, ◌∙◌}
 use mathlib.Core.Bool.{Bool, true, false}
 use mathlib.Core.List.{List, [], ◌∷◌}
-use Prim.Native.Nat.{ℕ, ◌+◌, ◌≤◌, ◌<◌}
+use Prim.Native.Nat.{ℕ, ◌+◌, ◌≤◌}
 use native.Mathlib.Nat.{add-zero}
 use native.Mathlib.Omega.{arith}
 use Rattle.rules.specs.Lists.{when◌then◌else◌, below, keep, sum_over}
@@ -44,47 +44,41 @@ unfolding when◌then◌else◌
 either-capped true a b = refl
 either-capped false a b = omega arith
 
--- a loop that adds up the parts of the numbers below e to a, before number n
-pub record Added (w : ℕ → ℕ) (a e n sum : ℕ) : Type 0 where
-  pub up_to : n ≤ e
+-- a loop that adds up the parts of the numbers to a, before number n
+pub record Added (w : ℕ → ℕ) (a n sum : ℕ) : Type 0 where
   pub so_far : sum ≡ capped (a + sum_over w (below n))
 
-module _ {w : ℕ → ℕ} {a e : ℕ} where
-  pub added_none : {sum : ℕ} → sum ≡ capped a → Added w a e 0 sum
-  added_none s = record { up_to = omega arith; so_far = rw (sum-none w, add-zero a) s }
+module _ {w : ℕ → ℕ} {a : ℕ} where
+  pub added_none : {sum : ℕ} → sum ≡ capped a → Added w a 0 sum
+  added_none s = record { so_far = rw (sum-none w, add-zero a) s }
 
-  module _ {n sum : ℕ} (p : Added w a e n sum) where
-    pub added_more : n < e → (part : ℕ) {r : ℕ} → capped part ≡ capped (w n) → r ≡ capped (sum + part) → Added w a e (n + 1) r
-    added_more l part q s =
-        record { up_to = omega arith; so_far = rw (sum_more w n) (s ∙ one_more a (sum_over w (below n)) (w n) part p.so_far q) }
+  module _ {n sum : ℕ} (p : Added w a n sum) where
+    pub added_more : (part : ℕ) {r : ℕ} → capped part ≡ capped (w n) → r ≡ capped (sum + part) → Added w a (n + 1) r
+    added_more part q s =
+        record { so_far = rw (sum_more w n) (s ∙ one_more a (sum_over w (below n)) (w n) part p.so_far q) }
 
-    pub added-all : e ≤ n → {m : ℕ} → e ≡ m → sum ≡ capped (a + sum_over w (below m))
-    added-all l q = p.so_far ∙ ap (λ (k : ℕ). capped (a + sum_over w (below k))) (ended p.up_to l ∙ q)
+    pub added-all : {e m : ℕ} → n ≤ e → e ≤ n → e ≡ m → sum ≡ capped (a + sum_over w (below m))
+    added-all u l q = p.so_far ∙ ap (λ (k : ℕ). capped (a + sum_over w (below k))) (ended u l ∙ q)
 
 -- from 0 on
 pub from-none : (n : ℕ) {sum : ℕ} → sum ≡ capped (0 + n) → sum ≡ capped n
 from-none n s = omega arith
 
 -- one that adds up the parts of those that pass
-pub record Kept (w : ℕ → ℕ) (t : ℕ → Bool) (e n sum : ℕ) : Type 0 where
-  pub up_to : n ≤ e
+pub record Kept (w : ℕ → ℕ) (t : ℕ → Bool) (n sum : ℕ) : Type 0 where
   pub so_far : sum ≡ capped (sum_over w (keep t (below n)))
 
-module _ {w : ℕ → ℕ} {t : ℕ → Bool} {e : ℕ} where
-  pub kept-start : Kept w t e 0 0
-  kept-start = record { up_to = omega arith; so_far = rw (kept-none w t) }
+module _ {w : ℕ → ℕ} {t : ℕ → Bool} where
+  pub kept-start : Kept w t 0 0
+  kept-start = record { so_far = rw (kept-none w t) }
 
-  module _ {n sum : ℕ} (p : Kept w t e n sum) where
-    module _ (l : n < e) {r : ℕ} where
-      pub kept-add : t n ≡ true → {part : ℕ} → part ≡ capped (w n) → r ≡ capped (sum + part) → Kept w t e (n + 1) r
-      kept-add on q s =
-          record {
-            up_to = omega arith;
-            so_far = rw (kept_more w t n on) (plus-capped (sum_over w (keep t (below n))) (w n) p.so_far q s);
-          }
+  module _ {n sum : ℕ} (p : Kept w t n sum) where
+    pub kept-add : t n ≡ true → {part r : ℕ} → part ≡ capped (w n) → r ≡ capped (sum + part) → Kept w t (n + 1) r
+    kept-add on q s =
+        record { so_far = rw (kept_more w t n on) (plus-capped (sum_over w (keep t (below n))) (w n) p.so_far q s) }
 
-      pub kept-skip : t n ≡ false → r ≡ sum → Kept w t e (n + 1) r
-      kept-skip off q = record { up_to = omega arith; so_far = rw (kept_same w t n off) (q ∙ p.so_far) }
+    pub kept-skip : t n ≡ false → {r : ℕ} → r ≡ sum → Kept w t (n + 1) r
+    kept-skip off q = record { so_far = rw (kept_same w t n off) (q ∙ p.so_far) }
 
-    pub kept-all : e ≤ n → {m : ℕ} → e ≡ m → sum ≡ capped (sum_over w (keep t (below m)))
-    kept-all l q = p.so_far ∙ ap (λ (k : ℕ). capped (sum_over w (keep t (below k)))) (ended p.up_to l ∙ q)
+    pub kept-all : {e m : ℕ} → n ≤ e → e ≤ n → e ≡ m → sum ≡ capped (sum_over w (keep t (below m)))
+    kept-all u l q = p.so_far ∙ ap (λ (k : ℕ). capped (sum_over w (keep t (below k)))) (ended u l ∙ q)

@@ -5,21 +5,20 @@ use mathlib.Core.Bool.{Bool, true, false, ◌&&◌, and-false, and_assoc, or-fal
 use mathlib.Core.Bool as B
 use mathlib.Core.List.{List, []}
 use Prim.Native.Nat.{ℕ, ◌+◌, ◌<◌, ◌≤◌}
-use native.Mathlib.Omega.{arith}
 use lib.Dec.{eqb, ltb}
-use lib.ListN.{length, set, replicate}
+use lib.ListN.{set, replicate}
 use borrow.Author.Tests.{eqb-true}
+use Rattle.std.specs.Prelude.{Option, Some, None}
 use Rattle.rules.specs.Bytes.{byte}
-use Rattle.rules.specs.Lists.{below, any, is_in}
+use Rattle.rules.specs.Lists.{when◌then◌else◌, below, any, is_in}
 use Rattle.rules.specs.Chart.{Chart, Junction, Segment, junctions, segments, source_kind, source, destination, ends_on_state, starts_at, from_junction}
 use Rattle.rules.specs.Bound.{leads_to, onward}
-use Rattle.rules.specs.declared.headers.Header.{Header}
-use Rattle.chart.specs.Places.{header_of, segment_place}
+use Rattle.rules.specs.declared.numbers.JunctionNo.{JunctionNo}
 use Rattle.chart.proofs.Ranges.{is-in-keep}
-use Rattle.bound.specs.Flags.{flags, leads_on, onward_flags, lead_on}
+use Rattle.bound.specs.Flags.{flags, leads_on, onward_flags, lead_on, led_to, led_on}
 use Rattle.bound.proofs.Growing.{any_none, any-more, ended}
 use Rattle.bound.proofs.Anys.{any_same, any-both, any_left, any-fewer, any-keep, any_swap, in-below, in-none}
-use Rattle.bound.proofs.Flagging.{flagged, length-flags, same_flags, no-flags, flag-more}
+use Rattle.bound.proofs.Flagging.{flagged, same_flags, no-flags, flag-more}
 
 -- a segment's test, with the number that it leads to in the place of its destination
 same_end : (d m j : ℕ) (a t : Bool) → eqb d j ≡ t → a && ltb d m && eqb d j ≡ a && ltb j m && eqb d j
@@ -31,11 +30,11 @@ limit-first a i n false e = rw (and-false (a && i && n))
 limit-first a i n true e = rw (B.and-true (a && i && n)) (and_assoc (a && i) n e)
 
 -- the flags of a list's junctions
-abbrev pub flags_of : List Junction → List ℕ
+abbrev pub flags_of : List Junction → List Bool
 flags_of is = flags (λ i. is_in i is)
 
 -- the flags of the junctions that the segments below t lead on to
-abbrev flags_to : Chart → List ℕ → Segment → List ℕ
+abbrev flags_to : Chart → List Bool → Segment → List Bool
 flags_to c here t = flags (λ j. any (λ u. leads_on c here u && eqb (destination c u) j) (below t))
 
 module _ (c : Chart) where
@@ -74,12 +73,12 @@ module _ (c : Chart) where
     none-led e = in-none (onward c is) (λ j. sym (in-onward j) ∙ any-fewer (leads_on c (flags_of is)) (λ t. eqb (destination c t) j) (below (segments c)) e)
 
   -- the segments below t, one more
-  module _ (here : List ℕ) where
-    led-none : (n : ℕ) → n ≡ 256 → replicate n 0 ≡ flags_to c here 0
+  module _ (here : List Bool) where
+    led-none : replicate 256 false ≡ flags_to c here 0
     led-none = no-flags _ (λ j. any_none _)
 
     module _ (t : Segment) where
-      led-more : (k : ℕ) → k < 256 → k ≡ destination c t → leads_on c here t ≡ true → set (flags_to c here t) k 1 ≡ flags_to c here (t + 1)
+      led-more : (k : ℕ) → k < 256 → k ≡ destination c t → leads_on c here t ≡ true → set (flags_to c here t) k true ≡ flags_to c here (t + 1)
       led-more k h e on =
           flag-more _ _ k h
           (λ j. any-more (λ u. leads_on c here u && eqb (destination c u) j) t ∙ rw (on, e))
@@ -95,37 +94,56 @@ module _ (c : Chart) where
       none_more : {more : Bool} → leads_on c here t ≡ false → more ≡ any (leads_on c here) (below t) → more ≡ any (leads_on c here) (below (t + 1))
       none_more off e = e ∙ sym (any-more (leads_on c here) t ∙ rw off (or-false (any (leads_on c here) (below t))))
 
+      -- where it leads on to, as the code was told
+      some-led : {to : JunctionNo} {r : Option JunctionNo} → r ≡ led_to c here t → r ≡ Some to → (leads_on c here t ≡ true) × (to.0 ≡ destination c t)
+      unfolding when◌then◌else◌
+      some-led {to} e i = by (leads_on c here t) refl
+        where
+          by : (b : Bool) → leads_on c here t ≡ b → (leads_on c here t ≡ true) × (to.0 ≡ destination c t)
+          by true p = (p, cc)
+          by false p = (cc, cc)
+
+      none-led-to : {r : Option JunctionNo} → r ≡ led_to c here t → r ≡ None → leads_on c here t ≡ false
+      unfolding when◌then◌else◌
+      none-led-to e i = by (leads_on c here t) refl
+        where
+          by : (b : Bool) → leads_on c here t ≡ b → leads_on c here t ≡ false
+          by true p = cc
+          by false p = p
+
 -- a loop over the segments, before segment t: what those passed lead on to is flagged, and whether one does
-pub record Passed (c : Chart) (here : List ℕ) (e t : ℕ) (there : List ℕ) (more : Bool) : Type 0 where
-  pub up_to : t ≤ e
-  pub size : length there ≡ 256
+pub record Passed (c : Chart) (here : List Bool) (t : ℕ) (there : List Bool) (more : Bool) : Type 0 where
   pub flagged : there ≡ flags_to c here t
   pub some : more ≡ any (leads_on c here) (below t)
 
-module _ {c : Chart} {here : List ℕ} {e : ℕ} where
-  passed-so : {t : ℕ} {there : List ℕ} {more : Bool} → t ≤ e → there ≡ flags_to c here t → more ≡ any (leads_on c here) (below t)
-      → Passed c here e t there more
-  passed-so u f s = record { up_to = u; size = rw f (length-flags _); flagged = f; some = s }
+module _ {c : Chart} {here : List Bool} where
+  pub passed_none : Passed c here 0 (replicate 256 false) false
+  passed_none = record { flagged = led-none c here; some = sym (any_none (leads_on c here)) }
 
-  pub passed_none : (n : ℕ) → n ≡ 256 → {there : List ℕ} → there ≡ replicate n 0 → Passed c here e 0 there false
-  passed_none n h r = passed-so (omega arith) (r ∙ led-none c here n h) (sym (any_none (leads_on c here)))
+  module _ {t : ℕ} {there : List Bool} {more : Bool} (p : Passed c here t there more) where
+    module _ {e : ℕ} (u : t ≤ e) (l : e ≤ t) (all : e ≡ segments c) where
+      q : t ≡ segments c
+      q = ended u l ∙ all
 
-  module _ {t : ℕ} {there : List ℕ} {more : Bool} (p : Passed c here e t there more) where
-    pub passed-all : e ≤ t → {h : Header} → h ≡ header_of c → e ≡ h.segments → (there ≡ onward_flags c here) × (more ≡ lead_on c here)
-    unfolding onward_flags lead_on
-    passed-all l own all =
-        let q : t ≡ segments c = ended p.up_to l ∙ all ∙ rw own in
-        rw (← q) (p.flagged, p.some)
+      pub passed-some : more ≡ true → Some there ≡ led_on c here
+      unfolding onward_flags lead_on when◌then◌else◌
+      passed-some on = rw (← q, sym p.some ∙ on, p.flagged)
 
-    module _ (l : t < e) {led : Bool} (test : led ≡ leads_on c here t) {next : List ℕ} {now : Bool} where
-      pub passed_on : led ≡ true → {h : Header} → h ≡ header_of c → (k : ℕ) → k < 256 → k ≡ byte c (segment_place h t + 5)
-          → next ≡ set there k 1 → now ≡ true → Passed c here e (t + 1) next now
-      passed_on on own k small read n m =
-          passed-so (omega arith)
-          (n ∙ ap (λ (f : List ℕ). set f k 1) p.flagged ∙ led-more c here t k small (read ∙ rw own) (sym test ∙ on))
-          (m ∙ any-led c here t (sym test ∙ on))
+      pub passed-none : more ≡ false → None ≡ led_on c here
+      unfolding lead_on when◌then◌else◌
+      passed-none off = rw (← q, sym p.some ∙ off)
 
-      pub passed-by : led ≡ false → next ≡ there → now ≡ more → Passed c here e (t + 1) next now
-      passed-by off n m =
-          passed-so (omega arith) (n ∙ p.flagged ∙ led-same c here t (sym test ∙ off))
-          (none_more c here t (sym test ∙ off) (m ∙ p.some))
+    module _ {told : Option JunctionNo} (test : told ≡ led_to c here t) {next : List Bool} {now : Bool} where
+      pub passed_on : {to : JunctionNo} → told ≡ Some to → to.0 < 256
+          → next ≡ set there to.0 true → now ≡ true → Passed c here (t + 1) next now
+      passed_on {to} i small n m =
+          let on = some-led c here t test i in
+          record {
+            flagged = n ∙ ap (λ (f : List Bool). set f to.0 true) p.flagged ∙ led-more c here t to.0 small on.1 on.0;
+            some = m ∙ any-led c here t on.0;
+          }
+
+      pub passed-by : told ≡ None → next ≡ there → now ≡ more → Passed c here (t + 1) next now
+      passed-by i n m =
+          let off = none-led-to c here t test i in
+          record { flagged = n ∙ p.flagged ∙ led-same c here t off; some = none_more c here t off (m ∙ p.some) }

@@ -4,8 +4,8 @@ pub mod Tabling
 pub mod Starting
 pub mod Weighing
 pub mod Adding
-pub mod Anys
 pub mod Flagging
+pub mod Anys
 pub mod Leading
 pub mod Reaching
 pub mod Told

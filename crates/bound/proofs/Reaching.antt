@@ -2,19 +2,17 @@
 use mathlib.Core.Path.{◌≡◌, refl, sym, ap, ◌∙◌}
 use mathlib.Core.Bool.{Bool, true, false, ◌||◌, or-false}
 use mathlib.Core.List.{List, [], ◌∷◌}
-use Prim.Native.Nat.{ℕ, zero, suc, ◌-◌, ◌<◌}
-use native.Mathlib.Omega.{arith}
+use Prim.Native.Nat.{ℕ, zero, suc, ◌<◌}
 use lib.Dec.{eqb}
-use lib.ListN.{get_or, set, replicate}
+use lib.ListN.{set, replicate}
 use borrow.Author.Tests.{eqb-true, eqb-false, eq-eqb, ne_eqb}
 use Rattle.rules.specs.Bytes.{byte}
-use Rattle.rules.specs.Lists.{below, any, is_in}
+use Rattle.rules.specs.Lists.{when◌then◌else◌, below, any, is_in}
 use Rattle.rules.specs.Chart.{Chart, Junction, junctions}
 use Rattle.rules.specs.Bound.{onward, reaches, loops}
-use Rattle.rules.specs.declared.headers.Header.{Header}
+use Rattle.std.specs.Prelude.{Option, Some, None}
 use Rattle.rules.proofs.Members.{keep-none}
-use Rattle.chart.specs.Places.{header_of}
-use Rattle.bound.specs.Flags.{is_flagged, onward_flags, lead_on}
+use Rattle.bound.specs.Flags.{is_flagged, onward_flags, lead_on, led_on}
 use Rattle.bound.proofs.Flagging.{flagged, no-flags, flag-more}
 use Rattle.bound.proofs.Leading.{flags_of, none-led, flags-onward}
 
@@ -44,51 +42,64 @@ module _ (c : Chart) where
   reached-later j n is e = rw e
 
 -- the flags are those of a list of junctions, and what is to reach from there decides
-pub record Led (c : Chart) (j : Junction) (left : ℕ) (here : List ℕ) : Type 0 where
+pub record Led (c : Chart) (j : Junction) (left : ℕ) (here : List Bool) : Type 0 where
   pub those : List Junction
   pub flagged : here ≡ flags_of those
   pub still : loops c j ≡ reaches c j left (onward c those)
+
+-- where segments lead on to, as the code was told
+some-on : (c : Chart) (here there : List Bool) {r : Option (List Bool)} → r ≡ led_on c here → r ≡ Some there → there ≡ onward_flags c here
+unfolding when◌then◌else◌
+some-on c here there e i = by (lead_on c here) refl
+  where
+    by : (b : Bool) → lead_on c here ≡ b → there ≡ onward_flags c here
+    by true p = cc
+    by false p = cc
+
+none-on : (c : Chart) (here : List Bool) {r : Option (List Bool)} → r ≡ led_on c here → r ≡ None → lead_on c here ≡ false
+unfolding when◌then◌else◌
+none-on c here e i = by (lead_on c here) refl
+  where
+    by : (b : Bool) → lead_on c here ≡ b → lead_on c here ≡ false
+    by true p = cc
+    by false p = p
 
 module _ (c : Chart) (j : Junction) (small : j < 256) where
   only_one : (i : ℕ) → is_in i (j ∷ []) ≡ false || eqb j i
   unfolding is_in any
   only_one i = or-false (eqb i j) ∙ other-side i j (eqb j i) refl
 
-  pub led-start : {h : Header} → h ≡ header_of c → {here : List ℕ} → here ≡ set (replicate 256 0) j 1 → Led c j h.junctions here
+  pub led-start : {n : ℕ} → n ≡ junctions c → Led c j n (set (replicate 256 false) j true)
   unfolding loops
-  led-start own e =
+  led-start e =
       record {
         those = j ∷ [];
-        flagged = e ∙ ap (λ (l : List ℕ). set l j 1) (no-flags (λ i. false) (λ i. refl) 256 refl) ∙ flag-more _ _ j small only_one;
-        still = rw own;
+        flagged = ap (λ (l : List Bool). set l j true) (no-flags (λ i. false) (λ i. refl)) ∙ flag-more _ _ j small only_one;
+        still = rw e;
       }
 
-  module _ (bytes : (i : ℕ) → byte c i < 256) {left : ℕ} {here : List ℕ} (l : Led c j left here) where
-    pub led-nowhere : lead_on c here ≡ false → loops c j ≡ false
-    led-nowhere e = l.still ∙ rw (none-led c bytes l.those (rw l.flagged at e)) (reaches-none c j left)
+  module _ (bytes : (i : ℕ) → byte c i < 256) {left : ℕ} {here : List Bool} (l : Led c j left here) {told : Option (List Bool)} (test : told ≡ led_on c here) where
+    pub led-nowhere : told ≡ None → loops c j ≡ false
+    led-nowhere i =
+        l.still ∙ rw (none-led c bytes l.those (rw l.flagged at (none-on c here test i))) (reaches-none c j left)
 
-    module _ {there : List ℕ} (e : there ≡ onward_flags c here) where
+    module _ {there : List Bool} (i : told ≡ Some there) where
       now-flagged : there ≡ flags_of (onward c l.those)
-      now-flagged = e ∙ rw l.flagged (flags-onward c bytes l.those)
+      now-flagged = some-on c here there test i ∙ rw l.flagged (flags-onward c bytes l.those)
 
       here-flagged : is_flagged there j ≡ is_in j (onward c l.those)
       here-flagged = rw now-flagged (flagged (λ i. is_in i (onward c l.those)) j small)
 
-      pub led-back : get_or there j 0 ≡ 1 → loops c j ≡ true
-      led-back q = l.still ∙ reached c j left (onward c l.those) (sym here-flagged ∙ eq-eqb _ _ q)
+      pub led-back : is_flagged there j ≡ true → loops c j ≡ true
+      led-back q = l.still ∙ reached c j left (onward c l.those) (sym here-flagged ∙ q)
 
-      module _ (q : get_or there j 0 ≡ 1 → ⊥) where
-        not_back : is_in j (onward c l.those) ≡ false
-        not_back = sym here-flagged ∙ ne_eqb _ _ q
-
+      module _ (q : is_flagged there j ≡ false) where
         pub led-out : left ≡ 0 → loops c j ≡ false
-        led-out z = l.still ∙ rw z (reached-last c j (onward c l.those) ∙ not_back)
+        led-out z = l.still ∙ rw z (reached-last c j (onward c l.those) ∙ (sym here-flagged ∙ q))
 
-        pub led_on : (left ≡ 0 → ⊥) → {next : List ℕ} → next ≡ there → Led c j (left - 1) next
-        led_on n s =
-            let one : left ≡ suc (left - 1) = omega arith in
-            record {
-              those = onward c l.those;
-              flagged = s ∙ now-flagged;
-              still = l.still ∙ ap (λ (k : ℕ). reaches c j k (onward c l.those)) one ∙ reached-later c j (left - 1) (onward c l.those) not_back;
-            }
+        pub led_on-from : {n : ℕ} → left ≡ suc n → Led c j n there
+        led_on-from {n} one = record {
+          those = onward c l.those;
+          flagged = now-flagged;
+          still = l.still ∙ rw one (reached-later c j n (onward c l.those) (sym here-flagged ∙ q));
+        }

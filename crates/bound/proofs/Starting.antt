@@ -1,83 +1,144 @@
--- Where a segment starts, and what it counts, as the code read it: by the chart's own header that is what the rules read.
--- Assumes nothing.
+-- Where a segment starts and ends, and what it counts, as the code read it. Assumes nothing.
 use mathlib.Core.Path.{◌≡◌, refl, ap, ◌∙◌}
 use mathlib.Core.Bool.{Bool, true, false, ◌&&◌}
 use mathlib.Core.Bool as B
 use mathlib.Core.List.{List}
-use Prim.Native.Nat.{ℕ, ◌+◌, ◌<◌}
+use Prim.Native.Nat.{ℕ, ◌+◌, ◌<◌, ◌≤◌}
 use native.Mathlib.Omega.{arith}
-use lib.Dec.{eqb, ltb}
+use lib.Dec.{eqb}
 use lib.ListN.{get_or}
-use borrow.Author.Tests.{eqb-true, eq-eqb, ne_eqb}
-use Rattle.rules.specs.Bytes.{byte}
+use borrow.Author.Tests.{eqb-true, eq-eqb, le-ltb, lt-ltb}
+use Rattle.std.specs.Prelude.{Option, Some, None}
 use Rattle.rules.specs.Lists.{when◌then◌else◌}
-use Rattle.rules.specs.Chart.{Chart, Block, Segment, source_kind, source, destination, ends_on_state, condition, condition_action, block_at}
-use Rattle.rules.specs.declared.headers.Header.{Header}
+use Rattle.rules.specs.Chart.{Chart, Block, Segment, junctions, source_kind, source, destination_kind, destination, ends_on_state, condition, condition_action, starts_at}
+use Rattle.rules.specs.declared.numbers.StateNo.{StateNo}
 use Rattle.rules.specs.declared.numbers.JunctionNo.{JunctionNo}
-use Rattle.chart.specs.Places.{header_of, segment_place}
-use Rattle.chart.specs.Read.{block_of, source_named}
+use Rattle.chart.specs.Read.{block_of, source_named, end_named, kind_of, number_of}
 use Rattle.chart.specs.declared.blocks.Block.{Block as CodeBlock}
 use Rattle.chart.specs.declared.segments.Source.{Source}
-use Rattle.chart.specs.declared.segments.Source.TheVariants.{Junction}
+use Rattle.chart.specs.declared.segments.Source.TheVariants.{Outer, Inner, Junction}
+use Rattle.chart.specs.declared.segments.End.{End}
+use Rattle.chart.specs.declared.segments.End.TheVariants.{State}
+use Rattle.chart.specs.declared.segments.End.TheVariants as ends
 use Rattle.bound.specs.Sums.{capped, weight_on}
-use Rattle.bound.specs.Flags.{leads_on}
+use Rattle.bound.specs.Flags.{is_flagged, leads_on, led_to}
 
 -- of a kind and a number that name a junction, and of those that name something else
-other-kind : (k n : ℕ) {s : Source} → s ≡ source_named k n → ((j : JunctionNo) → s ≡ Junction j → ⊥)
-    → (t : Bool) → eqb k 2 ≡ t → t ≡ false
+pub other-kind : (k n : ℕ) {s : Option Source} → s ≡ source_named k n → ((j : JunctionNo) → s ≡ Some (Junction j) → ⊥)
+    → eqb k 2 ≡ false
 unfolding when◌then◌else◌
-other-kind k n e other true p = absurd (other (record { 0 = n }) (e ∙ rw (eqb-true k 2 p)))
-other-kind k n e other false p = refl
+other-kind k n {s} e other = by (eqb k 2) refl
+  where
+    by : (t : Bool) → eqb k 2 ≡ t → eqb k 2 ≡ false
+    by true p = absurd (other (record { 0 = n }) (e ∙ rw (eqb-true k 2 p)))
+    by false p = p
 
-junction-kind : (k n : ℕ) {s : Source} (j : JunctionNo) → s ≡ source_named k n → s ≡ Junction j
-    → (t u v : Bool) → eqb k 0 ≡ t → eqb k 1 ≡ u → eqb k 2 ≡ v → (v ≡ true) × (j.0 ≡ n)
+pub junction-kind : (k n : ℕ) {s : Option Source} {j : JunctionNo} → s ≡ source_named k n → s ≡ Some (Junction j)
+    → (eqb k 2 ≡ true) × (j.0 ≡ n)
 unfolding when◌then◌else◌
-junction-kind k n j e i true u v p q r = (cc, cc)
-junction-kind k n j e i false true v p q r = (cc, cc)
-junction-kind k n j e i false false true p q r = (refl, cc)
-junction-kind k n j e i false false false p q r = (cc, cc)
+junction-kind k n {s} {j} e i = by (eqb k 0) (eqb k 1) (eqb k 2) refl refl refl
+  where
+    by : (t u v : Bool) → eqb k 0 ≡ t → eqb k 1 ≡ u → eqb k 2 ≡ v → (eqb k 2 ≡ true) × (j.0 ≡ n)
+    by true u v p q r = (cc, cc)
+    by false true v p q r = (cc, cc)
+    by false false true p q r = (r, cc)
+    by false false false p q r = (cc, cc)
 
-module _ (c : Chart) (t : Segment) {h : Header} (own : h ≡ header_of c) where
-  module _ {s : Source} (read : s ≡ source_named (byte c (segment_place h t + 2)) (byte c (segment_place h t + 3))) where
-    own_read : s ≡ source_named (source_kind c t) (source c t)
-    own_read = read ∙ rw own
+module _ (c : Chart) (t : Segment) where
+  module _ {s : Option Source} (read : s ≡ source_named (source_kind c t) (source c t)) where
+    pub starts-elsewhere : ((j : JunctionNo) → s ≡ Some (Junction j) → ⊥) → eqb (source_kind c t) 2 ≡ false
+    starts-elsewhere = other-kind (source_kind c t) (source c t) read
 
-    pub starts-elsewhere : ((j : JunctionNo) → s ≡ Junction j → ⊥) → eqb (source_kind c t) 2 ≡ false
-    starts-elsewhere other = other-kind (source_kind c t) (source c t) own_read other (eqb (source_kind c t) 2) refl
+    pub starts-on : {o : Source} {j : JunctionNo} → s ≡ Some o → o ≡ Junction j → (eqb (source_kind c t) 2 ≡ true) × (j.0 ≡ source c t)
+    starts-on i k = junction-kind (source_kind c t) (source c t) read (i ∙ ap Some k)
 
-    pub starts-on : {j : JunctionNo} → s ≡ Junction j → (eqb (source_kind c t) 2 ≡ true) × (j.0 ≡ source c t)
-    starts-on {j} e = junction-kind (source_kind c t) (source c t) j own_read e _ _ _ refl refl refl
+    -- it starts at a source exactly where that was read
+    pub starts-there : (o : Source) → s ≡ Some o → starts_at c (kind_of o) (number_of o) t ≡ true
+    unfolding when◌then◌else◌ starts_at
+    starts-there o i = by o i (eqb (source_kind c t) 0) (eqb (source_kind c t) 1) (eqb (source_kind c t) 2) refl refl refl
+      where
+        by : (p : Source) → s ≡ Some p → (x y z : Bool) → eqb (source_kind c t) 0 ≡ x → eqb (source_kind c t) 1 ≡ y → eqb (source_kind c t) 2 ≡ z
+            → starts_at c (kind_of p) (number_of p) t ≡ true
+        by (Outer m) q true y z e f g = let n : source c t ≡ m.0 = cc in rw (e, n, eq-eqb m.0 m.0 refl)
+        by (Outer m) q false true z e f g = cc
+        by (Outer m) q false false true e f g = cc
+        by (Outer m) q false false false e f g = cc
+        by (Inner m) q true y z e f g = cc
+        by (Inner m) q false true z e f g = let n : source c t ≡ m.0 = cc in rw (f, n, eq-eqb m.0 m.0 refl)
+        by (Inner m) q false false true e f g = cc
+        by (Inner m) q false false false e f g = cc
+        by (Junction m) q true y z e f g = cc
+        by (Junction m) q false true z e f g = cc
+        by (Junction m) q false false true e f g = let n : source c t ≡ m.0 = cc in rw (g, n, eq-eqb m.0 m.0 refl)
+        by (Junction m) q false false false e f g = cc
 
-  -- what a segment counts, with its condition and its action read
-  module _ {a b : CodeBlock} (tested : block_of a ≡ block_at c (segment_place h t + 9)) (acted : block_of b ≡ block_at c (segment_place h t + 12)) {e : Bool} (ends : e ≡ eqb (byte c (segment_place h t + 4)) 0) (sums : List ℕ) where
-    own-counts : (a.count ≡ (condition c t).count) × (b.count ≡ (condition_action c t).count) × (e ≡ ends_on_state c t)
-    own-counts = (
-      ap (λ (k : Block). k.count) tested ∙ rw own,
-      ap (λ (k : Block). k.count) acted ∙ rw own,
-      ends ∙ rw own,
-    )
+    pub starts-not-there : (o : Source) → (s ≡ Some o → ⊥) → starts_at c (kind_of o) (number_of o) t ≡ false
+    unfolding when◌then◌else◌ starts_at
+    starts-not-there o other = by (eqb (source_kind c t) (kind_of o)) (eqb (source c t) (number_of o)) refl refl
+      where
+        same : (p : Source) → source_kind c t ≡ kind_of p → source c t ≡ number_of p → s ≡ Some p
+        same (Outer m) e f = read ∙ rw (e, f)
+        same (Inner m) e f = read ∙ rw (e, f)
+        same (Junction m) e f = read ∙ rw (e, f)
 
-    pub weighed-there : a.count < 256 → b.count < 256 → e ≡ true → 1 + a.count + b.count ≡ capped (weight_on c sums t)
+        by : (x y : Bool) → eqb (source_kind c t) (kind_of o) ≡ x → eqb (source c t) (number_of o) ≡ y
+            → eqb (source_kind c t) (kind_of o) && eqb (source c t) (number_of o) ≡ false
+        by true true e f = absurd (other (same o (eqb-true _ _ e) (eqb-true _ _ f)))
+        by true false e f = rw (e, f)
+        by false y e f = rw e
+
+  -- where it ends, as it was read
+  module _ {d : End} (read : d ≡ end_named (destination_kind c t) (destination c t)) where
+    pub ends-there : {m : StateNo} → d ≡ State m → ends_on_state c t ≡ true
+    unfolding when◌then◌else◌
+    ends-there {m} i = by (ends_on_state c t) refl
+      where
+        by : (b : Bool) → ends_on_state c t ≡ b → ends_on_state c t ≡ true
+        by true p = p
+        by false p = cc
+
+    pub ends-on : {j : JunctionNo} → d ≡ ends.Junction j → (ends_on_state c t ≡ false) × (j.0 ≡ destination c t)
+    unfolding when◌then◌else◌
+    ends-on {j} i = by (ends_on_state c t) refl
+      where
+        by : (b : Bool) → ends_on_state c t ≡ b → (ends_on_state c t ≡ false) × (j.0 ≡ destination c t)
+        by true p = (cc, cc)
+        by false p = (p, cc)
+
+  -- what it counts, with its condition and its action read
+  module _ {a b : CodeBlock} (tested : block_of a ≡ condition c t) (acted : block_of b ≡ condition_action c t) (sums : List ℕ) where
+    own-counts : (a.count ≡ (condition c t).count) × (b.count ≡ (condition_action c t).count)
+    own-counts = (ap (λ (k : Block). k.count) tested, ap (λ (k : Block). k.count) acted)
+
+    pub weighed-there : a.count < 256 → b.count < 256 → ends_on_state c t ≡ true → 1 + a.count + b.count ≡ capped (weight_on c sums t)
     unfolding weight_on when◌then◌else◌
-    weighed-there x y on = rw (← own-counts.2, on) (omega (arith, own-counts.0, own-counts.1))
+    weighed-there x y on = rw on (omega (arith, own-counts.0, own-counts.1))
 
-    pub weighed-on : e ≡ false → {d r : ℕ} → d ≡ byte c (segment_place h t + 5) → r ≡ capped (1 + a.count + b.count + get_or sums d 0)
+    pub weighed-on : {j r : ℕ} → (ends_on_state c t ≡ false) × (j ≡ destination c t) → r ≡ capped (1 + a.count + b.count + get_or sums j 0)
         → r ≡ capped (weight_on c sums t)
     unfolding weight_on when◌then◌else◌
-    weighed-on off {d} {r} to q =
-        let there : d ≡ destination c t = to ∙ rw own in
-        rw (← own-counts.2, off, ← own-counts.0, ← own-counts.1, ← there) q
+    weighed-on on q = rw (on.0, ← own-counts.0, ← own-counts.1, ← on.1) q
 
-module _ (c : Chart) (t : Segment) (here : List ℕ) where
-  pub no-junction : eqb (source_kind c t) 2 ≡ false → false ≡ leads_on c here t
-  unfolding leads_on
+-- where it leads on to
+module _ (c : Chart) (t : Segment) (here : List Bool) where
+  pub no-junction : eqb (source_kind c t) 2 ≡ false → None ≡ led_to c here t
+  unfolding leads_on when◌then◌else◌
   no-junction e = rw e
 
-  module _ {h : Header} (own : h ≡ header_of c) {i : ℕ} (on : (eqb (source_kind c t) 2 ≡ true) × (i ≡ source c t)) where
-    pub not-flagged : (get_or here i 0 ≡ 1 → ⊥) → false ≡ leads_on c here t
-    unfolding leads_on
-    not-flagged n = rw (on.0, ← on.1, ne_eqb (get_or here i 0) 1 n)
+  pub on-state : ends_on_state c t ≡ true → None ≡ led_to c here t
+  unfolding leads_on when◌then◌else◌
+  on-state e = rw (e, B.and-false (eqb (source_kind c t) 2 && is_flagged here (source c t)))
 
-    pub flagged-on : get_or here i 0 ≡ 1 → {e : Bool} → e ≡ eqb (byte c (segment_place h t + 4)) 0 → {r : Bool} → r ≡ B.not e && ltb (byte c (segment_place h t + 5)) h.junctions → r ≡ leads_on c here t
-    unfolding leads_on
-    flagged-on f ends told = told ∙ rw (ends, own, on.0, ← on.1, eq-eqb (get_or here i 0) 1 f)
+  module _ {i : ℕ} (on : (eqb (source_kind c t) 2 ≡ true) × (i ≡ source c t)) where
+    module _ {j : JunctionNo} (to : (ends_on_state c t ≡ false) × (j.0 ≡ destination c t)) where
+      pub not-flagged : is_flagged here i ≡ false → None ≡ led_to c here t
+      unfolding leads_on when◌then◌else◌
+      not-flagged n = rw (on.0, ← on.1, n)
+
+      pub past-junctions : junctions c ≤ j.0 → None ≡ led_to c here t
+      unfolding leads_on when◌then◌else◌
+      past-junctions n = rw (← to.1, le-ltb j.0 (junctions c) n, B.and-false (eqb (source_kind c t) 2 && is_flagged here (source c t) && B.not (ends_on_state c t)))
+
+      pub flagged-on : is_flagged here i ≡ true → j.0 < junctions c → Some j ≡ led_to c here t
+      unfolding leads_on when◌then◌else◌
+      flagged-on f n = rw (on.0, ← on.1, f, to.0, ← to.1, lt-ltb j.0 (junctions c) n)

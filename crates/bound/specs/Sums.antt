@@ -1,19 +1,18 @@
 -- Sums that stop above the limit, the sums of W over the segments of each junction, and the bound's answer. Assumes nothing.
-use Rattle.std.specs.Prelude.{List, map, ℕ, zero, suc, ◌+◌, min, get_or}
+use Rattle.std.specs.Prelude.{List, map, ℕ, zero, suc, ◌+◌, min, get_or, Result, Ok, Err}
 use Rattle.rules.specs.Lists.{when◌then◌else◌, below, keep, sum_over}
 use Rattle.rules.specs.Chart.{State, Segment, Chart, segments, condition, condition_action, during, destination, ends_on_state, starts_at, from_junction}
 use Rattle.rules.specs.Doing.{Refusal, because, most_units}
 use Rattle.rules.specs.Bound.{WWithin, bound, bound_refusal}
-use Rattle.doing.specs.Held.{refusal_of}
-use Rattle.bound.specs.declared.Bounded.{Bounded}
-use Rattle.bound.specs.declared.Bounded.TheVariants.{Refused, By}
+use Rattle.rules.specs.declared.refusals.Refusal.{Refusal as CodeRefusal}
+use Rattle.doing.specs.Outcomes.{refusal_of}
 
 -- a sum that stops above the largest bound
 abbrev pub capped : ℕ → ℕ
 capped n = min n (most_units + 1)
 
--- a number for each that a junction can have
-unfoldable pub table : (ℕ → ℕ) → List ℕ
+-- an item for each number that a junction can have
+unfoldable pub table : {A : Type 0} → (ℕ → A) → List A
 table f = map f (below 256)
 
 module _ (c : Chart) where
@@ -40,9 +39,9 @@ pub record BoundAnswer : Type 0 where
   pub refusal : Refusal
   pub bound : ℕ
 
-abbrev pub bounded_of : Bounded → BoundAnswer
-bounded_of (Refused r) = record { refusal = refusal_of r; bound = 0 }
-bounded_of (By n) = record { refusal = because 0; bound = n }
+abbrev pub bounded_of : Result ℕ CodeRefusal → BoundAnswer
+bounded_of (Err r) = record { refusal = refusal_of r; bound = 0 }
+bounded_of (Ok n) = record { refusal = because 0; bound = n }
 
 -- by what its tests gave
 unfoldable pub bound_told : ℕ → ℕ → BoundAnswer

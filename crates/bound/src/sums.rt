@@ -10,6 +10,5 @@ const CAP: u32 = Counts::MOST_UNITS + 1;
 pub fn plus(a: u32, b: u32) -> u32
     ensures { result ≡ capped (a + b) }
 {
-    let sum = a as u64 + b as u64;
-    if sum < CAP as u64 { sum as u32 } else { CAP }
+    a.saturating_add(b).min(CAP)
 }

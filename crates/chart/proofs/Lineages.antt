@@ -44,8 +44,9 @@ module _ (c : Chart) (a at : State) (left : ℕ) {was : Bool} (still : was ≡ i
   lineage-root h d q = root c a at left h d q ∙ sym still
 
   -- neither: on to what the code reads as the parent
-  pub lineage-up : 0 < left → (at ≡ a → ⊥) → (at ≡ 0 → ⊥) → (next : State) → next ≡ parent c at → was ≡ is_in a (lineage c (left - 1) next)
-  lineage-up h d r next q = rw q (still ∙ up c a at left h d r)
+  pub lineage-up : 0 < left → (at ≡ a → ⊥) → (at ≡ 0 → ⊥) → (next : State) → next ≡ parent c at → (rest : ℕ) → rest ≡ left - 1
+      → was ≡ is_in a (lineage c rest next)
+  lineage-up h d r next q rest e = rw (q, e) (still ∙ up c a at left h d r)
 
   -- no further
   pub lineage-end : left ≡ 0 → eqb at a ≡ was

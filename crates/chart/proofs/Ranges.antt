@@ -29,14 +29,6 @@ module _ (f : ℕ → Bool) (a e : ℕ) where
   unfolding every
   every-end h = rw (range-end a e h)
 
-  pub every-pass : a < e → f a ≡ true → every f (range a e) ≡ every f (range (a + 1) e)
-  unfolding every
-  every-pass h p = rw (range-step a e h, p)
-
-  pub every-fail : a < e → f a ≡ false → every f (range a e) ≡ false
-  unfolding every
-  every-fail h p = rw (range-step a e h, p)
-
   -- those that pass
   pub keep-end : e ≤ a → keep f (range a e) ≡ []
   unfolding keep

@@ -3,7 +3,9 @@ ghost use Rattle.std.specs.Prelude.{◌≡◌, ◌+◌};
 ghost use Rattle.rules.specs.Chart.{block_at};
 ghost use Rattle.chart.specs.Read.{block_of};
 
-#[derive(Clone, Copy)]
+use fields::Field;
+
+#[derive(Clone, Copy, PartialEq, Eq, Debug)]
 pub struct Block {
     pub start: u16,
     pub count: u8,
@@ -23,7 +25,7 @@ pub fn at(chart: &[u8], place: u32, offset: u8) -> Block
 {
     let first = place as usize + offset as usize;
     Block {
-        start: fields::u16_at(chart, first),
-        count: fields::u8_at(chart, first + 2),
+        start: u16::at(chart, first),
+        count: u8::at(chart, first + 2),
     }
 }

@@ -1,4 +1,4 @@
-// A state's fields.
+// A state's fields, a function for each by the paper's name.
 ghost use Rattle.std.specs.Prelude.{◌≡◌, ◌+◌};
 ghost use Rattle.rules.specs.Bytes.{byte};
 ghost use Rattle.rules.specs.Chart as rules;
@@ -6,20 +6,15 @@ ghost use Rattle.chart.specs.Places.{state_place};
 ghost use Rattle.chart.specs.Read.{block_of};
 
 use crate::blocks::Block;
+use crate::kinds::Kind;
 use crate::{blocks, places};
+use fields::Field;
 use rules::numbers::StateNo;
-
-// The kinds of states.
-pub const LEAF: u8 = 0;
-
-pub const ONE_OF: u8 = 1;
-
-pub const ALL_OF: u8 = 2;
 
 fn byte_of(chart: &[u8], s: StateNo, offset: u8) -> u8
     ensures { result ≡ byte chart.now (state_place s.0 + offset) }
 {
-    fields::u8_at(chart, places::state(s) as usize + offset as usize)
+    u8::at(chart, places::state(s) as usize + offset as usize)
 }
 
 fn block_of(chart: &[u8], s: StateNo, offset: u8) -> Block
@@ -34,6 +29,7 @@ pub fn parent(chart: &[u8], s: StateNo) -> StateNo
     StateNo(byte_of(chart, s, 2))
 }
 
+// The byte as it stands there; `Kind` names it.
 pub fn kind(chart: &[u8], s: StateNo) -> u8
     ensures { result ≡ rules.kind chart.now s.0 }
 {
@@ -55,7 +51,7 @@ pub fn history(chart: &[u8], s: StateNo) -> u8
 pub fn is_one_of(chart: &[u8], s: StateNo) -> bool
     ensures { result ≡ rules.is_one_of chart.now s.0 }
 {
-    kind(chart, s) == ONE_OF
+    kind(chart, s) == Kind::OneOf as u8
 }
 
 pub fn keeps_history(chart: &[u8], s: StateNo) -> bool

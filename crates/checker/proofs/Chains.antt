@@ -1,51 +1,35 @@
--- Tests in a row: the first that fails decides. As a conjunction, and as the numbers of the refusals. Assumes nothing.
-use mathlib.Core.Path.{◌≡◌, refl}
+-- Tests in a row, the first that fails deciding, and a choice by a test. Assumes nothing.
+use mathlib.Core.Path.{◌≡◌}
 use mathlib.Core.Bool.{Bool, true, false, ◌&&◌}
-use mathlib.Core.List.{List, [], ◌∷◌}
-use Prim.Native.Nat.{ℕ, suc}
-use lib.Dec.{leb, eqb}
-use lib.ListN.{length, drop}
-use Rattle.rules.specs.Lists.{below, every}
-use Rattle.rules.specs.Chart.{Chart, header_size, segments, instructions, total}
-use Rattle.rules.specs.Types.{fits_of}
-use Rattle.rules.specs.Accept.{◌unless◌next◌, marked, records_right, states_right, segment_right, blocks_right, instruction_right, every_block, stack_use_right, nothing_barred, chart_refusal}
-use Rattle.chart.specs.Places.{header_of}
+use Prim.Native.Nat.{ℕ}
+use Rattle.rules.specs.Lists.{when◌then◌else◌}
+use Rattle.rules.specs.Accept.{◌unless◌next◌}
 
-pub fails : (a b : Bool) → a ≡ false → false ≡ a && b
-fails a b e = rw e
+-- a conjunction whose first test said s
+pub stops : {a s : Bool} (b : Bool) → s ≡ a → s ≡ false → s ≡ a && b
+stops b e f = rw (← e, f)
 
-pub passes : (a b : Bool) {r : Bool} → a ≡ true → r ≡ b → r ≡ a && b
-passes a b e f = rw e f
+pub goes_on : {a b s r : Bool} → s ≡ a → s ≡ true → r ≡ b → r ≡ a && b
+goes_on e t f = rw (← e, t) f
 
-pub last : (a : Bool) {r : Bool} → r ≡ a → r ≡ a && true
-last true e = e
-last false e = e
+-- a refusal whose test failed, and one whose test passed
+pub refused : (t : Bool) (k r : ℕ) → t ≡ false → (k unless t next r) ≡ k
+unfolding ◌unless◌next◌
+refused t k r e = rw e
 
--- the number of the first test that fails, the first being test k
-unfoldable pub refusal_from : ℕ → List Bool → ℕ
-refusal_from k [] = 0
-refusal_from k (t ∷ ts) = k unless t next refusal_from (suc k) ts
+pub passed : (t : Bool) (k r : ℕ) → t ≡ true → (k unless t next r) ≡ r
+unfolding ◌unless◌next◌
+passed t k r e = rw e
 
-pub passed : (k : ℕ) (t : Bool) (ts : List Bool) → t ≡ true → refusal_from k (t ∷ ts) ≡ refusal_from (suc k) ts
-unfolding refusal_from ◌unless◌next◌
-passed k t ts e = rw e
+pub ruleset refusals = (refused, passed)
 
-pub broken : (k : ℕ) (t : Bool) (ts : List Bool) → t ≡ false → refusal_from k (t ∷ ts) ≡ k
-unfolding refusal_from ◌unless◌next◌
-broken k t ts e = rw e
+-- a choice by a test
+pub chosen : {A : Type 0} (t : Bool) (x y : A) → t ≡ true → (when t then x else y) ≡ x
+unfolding when◌then◌else◌
+chosen t x y e = rw e
 
--- the tests of a chart
-abbrev tests : Chart → List Bool
-tests c =
-    leb header_size (length c) ∷ marked c "CH" 0 ∷ fits_of (header_of c) ∷ eqb (length c) (total c) ∷ records_right c
-    ∷ states_right c ∷ every (segment_right c) (below (segments c)) ∷ blocks_right c
-    ∷ every (instruction_right c) (below (instructions c)) ∷ every_block c (stack_use_right c)
-    ∷ every_block c (nothing_barred c) ∷ []
+pub other : {A : Type 0} (t : Bool) (x y : A) → t ≡ false → (when t then x else y) ≡ y
+unfolding when◌then◌else◌
+other t x y e = rw e
 
--- what decides once k tests have passed
-abbrev pub after : ℕ → Chart → ℕ
-after k c = refusal_from (suc k) (drop k (tests c))
-
-pub in_order : (c : Chart) → chart_refusal c ≡ after 0 c
-unfolding chart_refusal refusal_from
-in_order c = refl
+pub ruleset choices = (chosen, other)

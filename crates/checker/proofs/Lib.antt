@@ -1,7 +1,7 @@
-pub mod Marks
+pub mod Every
 pub mod Chains
 pub mod Ends
-pub mod Children
 pub mod Numbers
 pub mod Parts
 pub mod Walks
+pub mod KindNumbers

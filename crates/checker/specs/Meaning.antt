@@ -1,5 +1,7 @@
 -- What the code's types mean. Assumes nothing.
-use Rattle.std.specs.Prelude.{ℕ}
+use Rattle.std.specs.Prelude.{ℕ, Result, Ok, Err}
+use Rattle.rules.specs.Types.{number_of}
+use Rattle.rules.specs.declared.refusals.Refusal.{Refusal}
 use Rattle.rules.specs.Accept.{Effect, none, acts, sends, Operands, bare, a_value, a_variable, an_output, an_event_and_state, no_op, OpRule, rule, Place, in_condition, in_action, in_sending_action}
 use Rattle.checker.specs.declared.blocks.Place.{Place as CodePlace}
 use Rattle.checker.specs.declared.blocks.Place.TheVariants.{Condition, Action, SendingAction}
@@ -32,3 +34,8 @@ row_of t g e o = rule t g (effect_meant e) (operands_meant o)
 
 abbrev pub op_rule_of : CodeOpRule → OpRule
 op_rule_of r = row_of r.takes r.gives r.effect r.operands
+
+-- the number of what refused, and 0 where nothing did
+abbrev pub refusal_number : {T : Type 0} → Result T Refusal → ℕ
+refusal_number (Ok taken) = 0
+refusal_number (Err r) = number_of r

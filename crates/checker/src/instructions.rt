@@ -1,44 +1,47 @@
 // The rules of instructions.
 ghost use Rattle.std.specs.Prelude.{◌≡◌};
-ghost use Rattle.rules.specs.Chart.{Chart};
+ghost use Rattle.rules.specs.Lists.{below, every};
+ghost use Rattle.rules.specs.Chart as fields_of;
 ghost use Rattle.rules.specs.Accept as rules;
-ghost use Rattle.chart.specs.Places.{header_of};
 ghost use Rattle.chart.specs.Read.{instruction_of};
 ghost use Rattle.checker.specs.Meaning.{operands_meant};
 
 use crate::ops;
 use crate::ops::Operands;
 use chart::instructions::Instruction;
-use chart::{instructions, places};
-use rules::headers::Header;
+use chart::{Chart, instructions, places};
 
 // A negative b is a number above every state's.
-fn any_state(h: Header, b: i16) -> bool
-    ensures { (c : Chart) → h ≡ header_of c → result ≡ rules.any_state c b }
+fn any_state(chart: &Chart, b: i16) -> bool
+    ensures { result ≡ rules.any_state chart.now b }
 {
-    fields::unsigned16(b) < h.states as u16
+    b.cast_unsigned() < chart.header().states as u16
 }
 
-fn operands_right(h: Header, operands: Operands, i: Instruction) -> bool
-    ensures { (c : Chart) → h ≡ header_of c → result ≡ rules.operands_right c (operands_meant operands) (instruction_of i) }
+#[tactic(auto, using(crate::proofs::Numbers::zero_held), unfolding(rules::specs::Accept::operands_right))]
+fn operands_right(chart: &Chart, operands: Operands, i: Instruction) -> bool
+    ensures { result ≡ rules.operands_right chart.now (operands_meant operands) (instruction_of i) }
 {
+    let h = chart.header();
     match operands {
-        Operands::Bare => (i.a == 0) & (i.b == 0),
+        Operands::Bare => i.a == 0 && i.b == 0,
         Operands::Value => i.a == 0,
-        Operands::Variable => (i.a < h.variables) & (i.b == 0),
-        Operands::Output => ((1 <= i.a) & (i.a <= h.outputs)) & (i.b == 0),
-        Operands::EventAndState => ((1 <= i.a) & (i.a <= h.events)) & any_state(h, i.b),
+        Operands::Variable => i.a < h.variables && i.b == 0,
+        Operands::Output => 1 <= i.a && i.a <= h.outputs && i.b == 0,
+        Operands::EventAndState => 1 <= i.a && i.a <= h.events && any_state(chart, i.b),
         Operands::NoOp => false,
     }
 }
 
-pub fn instruction_right(chart: &[u8], h: Header, i: u16) -> bool
-    requires { h ≡ header_of chart.now }
+fn instruction_right(chart: &Chart, i: u16) -> bool
     ensures { result ≡ rules.instruction_right chart.now i }
 {
-    let instruction = instructions::at(chart, places::instruction(h, i));
-    let op = instruction.op;
-    let rule = ops::rule_of(op);
-    let operands = rule.operands;
-    operands_right(h, operands, instruction)
+    let instruction = instructions::at(chart.bytes(), places::instruction(chart.header(), i));
+    operands_right(chart, ops::rule_of(instruction.op).operands, instruction)
+}
+
+pub fn right(chart: &Chart) -> bool
+    ensures { result ≡ every (rules.instruction_right chart.now) (below (fields_of.instructions chart.now)) }
+{
+    (0..chart.header().instructions).all(|i| instruction_right(chart, i))
 }

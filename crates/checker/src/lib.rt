@@ -1,10 +1,5 @@
-// The checker of charts: any bytes whatever, answered by the number of the refusal, and by 0 where the chart is taken.
+// The checker of charts: any bytes whatever, taken as a chart or refused, and then by the first refusal that applies.
 #![tactic(auto)]
-
-use crate::blocks::BlockRule;
-use crate::tables::Rule;
-use chart::{headers, places};
-use rules::headers::{Header, Made};
 
 mod records; // each record's mark and zero bytes
 mod states; // the rules of states and junctions
@@ -12,112 +7,78 @@ mod segments; // those of segments
 mod ops; // what an op takes, gives and does
 mod instructions; // the rules of instructions
 mod blocks; // those of blocks
-mod tables; // every record of a table obeys its rule
 
-ghost use Rattle.std.specs.Prelude.{◌≡◌};
+ghost use Rattle.std.specs.Prelude.{◌≡◌, eqb, length, IfOk};
 ghost use Rattle.rules.specs.Types.{fits_of};
+ghost use Rattle.rules.specs.Chart.{total};
 ghost use Rattle.rules.specs.Accept as rules;
 ghost use Rattle.chart.specs.Places.{header_of};
-ghost use Rattle.checker.specs.Rules.{block_rule_of};
+ghost use Rattle.checker.specs.Meaning.{refusal_number};
 
-fn counts_right(h: Header) -> bool
-    ensures { result ≡ fits_of h }
+use chart::{Chart, places};
+use rules::headers::Header;
+use rules::refusals::Refusal;
+
+fn counts_right(chart: &Chart) -> bool
+    ensures { result ≡ fits_of (header_of chart.now) }
 {
-    match h.checked() {
-        Made::Of(_) => true,
-        Made::Outside => false,
-    }
+    chart.header().checked().is_some()
 }
 
-fn records_right(chart: &[u8], h: Header) -> bool
-    requires { h ≡ header_of chart.now }
-    ensures { result ≡ rules.records_right chart.now }
+fn length_right(chart: &Chart) -> bool
+    ensures { result ≡ eqb (length chart.now) (total chart.now) }
 {
-    if !records::zero(chart, 0, 9) {
-        return false;
-    }
-    if !tables::every(chart, h, Rule::StateRecord) {
-        return false;
-    }
-    if !tables::every(chart, h, Rule::JunctionRecord) {
-        return false;
-    }
-    if !tables::every(chart, h, Rule::SegmentRecord) {
-        return false;
-    }
-    if !tables::every(chart, h, Rule::VariableRecord) {
-        return false;
-    }
-    tables::every(chart, h, Rule::InstructionRecord)
+    chart.bytes().len() == places::total(chart.header()) as usize
 }
 
-fn states_right(chart: &[u8], h: Header) -> bool
-    requires { h ≡ header_of chart.now }
-    ensures { result ≡ rules.states_right chart.now }
+#[tactic(auto, using(crate::proofs::Chains::refusals), unfolding(rules::specs::Accept::chart_refusal))]
+pub fn check<'a>(chart: &'a [u8]) -> Result<Chart<'a>, Refusal>
+    ensures number { refusal_number result ≡ rules.chart_refusal chart.now }
+    ensures whole { IfOk result (λ taken. taken ≡ chart.now) }
 {
-    if !tables::every(chart, h, Rule::State) {
-        return false;
+    if !Header::is_whole(chart.len()) {
+        return Err(Refusal::ShortChart);
     }
-    tables::every(chart, h, Rule::JunctionParent)
+    let chart = Chart::read(chart);
+    if !records::header(&chart) {
+        return Err(Refusal::ChartMark);
+    }
+    if !counts_right(&chart) {
+        return Err(Refusal::Count);
+    }
+    if !length_right(&chart) {
+        return Err(Refusal::ChartLength);
+    }
+    if !records::right(&chart) {
+        return Err(Refusal::Record);
+    }
+    if !states::right(&chart) {
+        return Err(Refusal::State);
+    }
+    if !segments::right(&chart) {
+        return Err(Refusal::Segment);
+    }
+    if !blocks::right(&chart) {
+        return Err(Refusal::Block);
+    }
+    if !instructions::right(&chart) {
+        return Err(Refusal::Instruction);
+    }
+    if !blocks::every_stack_right(&chart) {
+        return Err(Refusal::StackUse);
+    }
+    if !blocks::nothing_barred_anywhere(&chart) {
+        return Err(Refusal::Barred);
+    }
+    Ok(chart)
 }
 
-fn every_block(chart: &[u8], h: Header, rule: BlockRule) -> bool
-    requires { h ≡ header_of chart.now }
-    ensures { result ≡ rules.every_block chart.now (block_rule_of rule chart.now) }
-{
-    if !tables::every(chart, h, Rule::StateBlocks(rule)) {
-        return false;
-    }
-    tables::every(chart, h, Rule::SegmentBlocks(rule))
-}
-
-fn blocks_right(chart: &[u8], h: Header) -> bool
-    requires { h ≡ header_of chart.now }
-    ensures { result ≡ rules.blocks_right chart.now }
-{
-    if !every_block(chart, h, BlockRule::Inside) {
-        return false;
-    }
-    blocks::root_has_none(chart)
-}
-
-// The lowest number that applies.
+// The number of the refusal, and 0 where the chart is taken.
 pub fn refusal(chart: &[u8]) -> u8
     ensures { result ≡ rules.chart_refusal chart.now }
 {
-    if !Header::is_whole(chart.len()) {
-        return 1;
+    match check(chart) {
+        Ok(_) => 0,
+        Err(refusal) => refusal.number(),
     }
-    if !records::header(chart) {
-        return 2;
-    }
-    let h = headers::read(chart);
-    if !counts_right(h) {
-        return 3;
-    }
-    if chart.len() != places::total(h) as usize {
-        return 4;
-    }
-    if !records_right(chart, h) {
-        return 5;
-    }
-    if !states_right(chart, h) {
-        return 6;
-    }
-    if !tables::every(chart, h, Rule::Segment) {
-        return 7;
-    }
-    if !blocks_right(chart, h) {
-        return 8;
-    }
-    if !tables::every(chart, h, Rule::Instruction) {
-        return 9;
-    }
-    if !every_block(chart, h, BlockRule::StackUse) {
-        return 10;
-    }
-    if !every_block(chart, h, BlockRule::NothingBarred) {
-        return 11;
-    }
-    0
 }

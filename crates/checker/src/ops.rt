@@ -6,14 +6,14 @@ ghost use Rattle.checker.specs.Meaning.{effect_meant, operands_meant, op_rule_of
 
 use chart::ops::Op;
 
-#[derive(Clone, Copy)]
+#[derive(Clone, Copy, PartialEq, Eq, Debug)]
 pub enum Effect {
     Nothing,
     Acts,
     Sends,
 }
 
-#[derive(Clone, Copy)]
+#[derive(Clone, Copy, PartialEq, Eq, Debug)]
 pub enum Operands {
     Bare,
     Value,
@@ -23,7 +23,7 @@ pub enum Operands {
     NoOp,
 }
 
-#[derive(Clone, Copy)]
+#[derive(Clone, Copy, PartialEq, Eq, Debug)]
 pub struct OpRule {
     pub takes: u8,
     pub gives: u8,
@@ -42,6 +42,7 @@ fn row(takes: u8, gives: u8, effect: Effect, operands: Operands) -> OpRule
     }
 }
 
+#[tactic(auto, unfolding(rules::specs::Accept::op_rule))]
 pub fn rule_of(op: Op) -> OpRule
     ensures { op_rule_of result ≡ op_rule (op_meant op) }
 {

@@ -3,165 +3,120 @@
 #![tactic(auto)]
 
 use blocks::action;
+use chart::Chart;
 use chart::blocks::Block;
-use chart::headers;
-use doing::{Counts, Done};
+use chart::instructions::Instruction;
+use chart::ops::Op;
+use doing::{Counts, Now};
 use image::variables;
+use rules::headers::Header;
 use rules::images::Image;
-use std::io;
+use rules::refusals::Refusal;
+use std::{fmt, io};
 
-const LEAST: i32 = -2147483648;
+const CORNERS: [i32; 5] = [i32::MIN, -1, 0, 1, i32::MAX];
 
-const MOST: i32 = 2147483647;
+const OF_TWO: [(&str, Op); 7] = [
+    ("add", Op::Add),
+    ("subtract", Op::Subtract),
+    ("multiply", Op::Multiply),
+    ("quotient", Op::Quotient),
+    ("remainder", Op::Remainder),
+    ("less", Op::Less),
+    ("equal", Op::Equal),
+];
 
-const LOAD: u8 = 1;
+const INSTRUCTION: usize = Instruction::SIZE as usize;
 
-const STORE: u8 = 2;
+// A header with no tables before the instructions, and at most four of these.
+const LENGTH: usize = Header::SIZE + 4 * INSTRUCTION;
 
-const NOT: u8 = 10;
-
-const RAISE: u8 = 11;
-
-// A header with no tables before the instructions, and the block's four.
-const LENGTH: usize = 36;
-
-fn text(rt: &impl Print, words: &[u8]) -> io::Result<()> {
-    rt.write_all(words)
+// An op with its first operand, one after the other.
+fn chart_of(code: &[(Op, u8)]) -> [u8; LENGTH] {
+    let mut chart = [0u8; LENGTH];
+    let records = chart[Header::SIZE..].chunks_exact_mut(INSTRUCTION);
+    for (record, &(op, a)) in records.zip(code) {
+        record[2] = op as u8;
+        record[3] = a;
+    }
+    chart
 }
 
-fn number(rt: &impl Print, n: u64) -> io::Result<()> {
-    rt.print(n)
-}
+// The third variable behind a block, or why it is refused.
+#[derive(Drop)]
+struct Answer(Result<i32, Refusal>);
 
-fn value(rt: &impl Print, z: i32) -> io::Result<()> {
-    let n = fields::unsigned32(z) as u64;
-    if n < 2147483648 {
-        number(rt, n)
-    } else {
-        text(rt, b"-")?;
-        number(rt, 4294967296 - n)
+impl fmt::Display for Answer {
+    fn fmt<W: fmt::Write>(&self, f: &mut fmt::Formatter<W>) -> fmt::Result {
+        match self.0 {
+            Ok(value) => write!(f, "{value}"),
+            Err(why) => write!(f, "refused {}", why.number()),
+        }
     }
 }
 
-fn op_name(rt: &impl Print, op: u8) -> io::Result<()> {
-    match op {
-        3 => text(rt, b"add"),
-        4 => text(rt, b"subtract"),
-        5 => text(rt, b"multiply"),
-        6 => text(rt, b"quotient"),
-        7 => text(rt, b"remainder"),
-        8 => text(rt, b"less"),
-        9 => text(rt, b"equal"),
-        _ => text(rt, b"not"),
-    }
-}
-
-fn instruction(chart: &mut [u8], n: u8, op: u8, a: u8) {
-    let first = 12 + 6 * (n as usize);
-    fields::put_u8(chart, first + 2, op);
-    fields::put_u8(chart, first + 3, a);
-}
-
-// Performs the first so many instructions with so many units and with room for one item, and says how it went: the third
-// variable, or the refusal.
-fn answer(rt: &impl Print, chart: &[u8], count: u8, units: u32, x: i32, y: i32) -> io::Result<()> {
+// The first so many instructions, with so many units and with room for one item, on these two variables.
+fn performed(chart: &Chart, count: u8, units: u32, x: i32, y: i32) -> Result<i32, Refusal> {
     let mut image = [0u8; Image::SIZE];
-    let mut trace = [0u32; 1];
     variables::set(&mut image, 0, x);
     variables::set(&mut image, 1, y);
-    let h = headers::read(chart);
-    let block = Block { start: 0, count };
-    let counts = Counts { units, items: 0 };
-    let done = action::perform(chart, h, block, &mut image, &mut trace, counts);
-    text(rt, b": ")?;
-    match done {
-        Done::Refused(why) => {
-            text(rt, b"refused ")?;
-            number(rt, why.number as u64)?;
+    let mut trace = [0u32; 1];
+    let mut now = Now::new(&mut image, &mut trace, Counts { units, items: 0 });
+    action::perform(chart, Block { start: 0, count }, &mut now)?;
+    Ok(now.variable(2))
+}
+
+fn of_two(rt: &impl Print, name: &str, op: Op) -> io::Result<()> {
+    let code = chart_of(&[(Op::Load, 0), (Op::Load, 1), (op, 0), (Op::Store, 2)]);
+    let chart = Chart::read(&code);
+    for x in CORNERS {
+        for y in CORNERS {
+            let answer = Answer(performed(&chart, 4, 4, x, y));
+            println!(rt; "{name} {x} {y}: {answer}")?;
         }
-        Done::Went(_) => value(rt, variables::value(&image, 2))?,
     }
-    text(rt, b"\n")
-}
-
-fn of_two(rt: &impl Print, op: u8, x: i32, y: i32) -> io::Result<()> {
-    let mut chart = [0u8; LENGTH];
-    instruction(&mut chart, 0, LOAD, 0);
-    instruction(&mut chart, 1, LOAD, 1);
-    instruction(&mut chart, 2, op, 0);
-    instruction(&mut chart, 3, STORE, 2);
-    op_name(rt, op)?;
-    text(rt, b" ")?;
-    value(rt, x)?;
-    text(rt, b" ")?;
-    value(rt, y)?;
-    answer(rt, &chart, 4, 4, x, y)
-}
-
-fn of_one(rt: &impl Print, op: u8, x: i32) -> io::Result<()> {
-    let mut chart = [0u8; LENGTH];
-    instruction(&mut chart, 0, LOAD, 0);
-    instruction(&mut chart, 1, op, 0);
-    instruction(&mut chart, 2, STORE, 2);
-    op_name(rt, op)?;
-    text(rt, b" ")?;
-    value(rt, x)?;
-    answer(rt, &chart, 3, 3, x, 0)
-}
-
-// Load, store, raise, raise: with room for one item.
-fn counted(rt: &impl Print, count: u8, units: u32) -> io::Result<()> {
-    let mut chart = [0u8; LENGTH];
-    instruction(&mut chart, 0, LOAD, 0);
-    instruction(&mut chart, 1, STORE, 2);
-    instruction(&mut chart, 2, RAISE, 1);
-    instruction(&mut chart, 3, RAISE, 1);
-    number(rt, count as u64)?;
-    text(rt, b" instructions, ")?;
-    number(rt, units as u64)?;
-    text(rt, b" units")?;
-    answer(rt, &chart, count, units, 7, 0)
-}
-
-fn row(rt: &impl Print, op: u8, x: i32) -> io::Result<()> {
-    of_two(rt, op, x, LEAST)?;
-    of_two(rt, op, x, -1)?;
-    of_two(rt, op, x, 0)?;
-    of_two(rt, op, x, 1)?;
-    of_two(rt, op, x, MOST)
-}
-
-fn table(rt: &impl Print, op: u8) -> io::Result<()> {
-    row(rt, op, LEAST)?;
-    row(rt, op, -1)?;
-    row(rt, op, 0)?;
-    row(rt, op, 1)?;
-    row(rt, op, MOST)
+    Ok(())
 }
 
 fn negations(rt: &impl Print) -> io::Result<()> {
-    of_one(rt, NOT, LEAST)?;
-    of_one(rt, NOT, -1)?;
-    of_one(rt, NOT, 0)?;
-    of_one(rt, NOT, 1)?;
-    of_one(rt, NOT, MOST)
+    let code = chart_of(&[(Op::Load, 0), (Op::Not, 0), (Op::Store, 2)]);
+    let chart = Chart::read(&code);
+    for x in CORNERS {
+        let answer = Answer(performed(&chart, 3, 3, x, 0));
+        println!(rt; "not {x}: {answer}")?;
+    }
+    Ok(())
+}
+
+// With room for one item.
+fn counted(rt: &impl Print) -> io::Result<()> {
+    let code = chart_of(&[
+        (Op::Load, 0),
+        (Op::Store, 2),
+        (Op::Raise, 1),
+        (Op::Raise, 1),
+    ]);
+    let chart = Chart::read(&code);
+    for (count, units) in [
+        (0, 0),
+        (1, 0),
+        (2, 1),
+        (2, 2),
+        (3, 2),
+        (3, 3),
+        (4, 3),
+        (4, 4),
+    ] {
+        let answer = Answer(performed(&chart, count, units, 7, 0));
+        println!(rt; "{count} instructions, {units} units: {answer}")?;
+    }
+    Ok(())
 }
 
 fn main(rt: HostRuntime) -> io::Result<()> {
-    table(&rt, 3)?;
-    table(&rt, 4)?;
-    table(&rt, 5)?;
-    table(&rt, 6)?;
-    table(&rt, 7)?;
-    table(&rt, 8)?;
-    table(&rt, 9)?;
+    for (name, op) in OF_TWO {
+        of_two(&rt, name, op)?;
+    }
     negations(&rt)?;
-    counted(&rt, 0, 0)?;
-    counted(&rt, 1, 0)?;
-    counted(&rt, 2, 1)?;
-    counted(&rt, 2, 2)?;
-    counted(&rt, 3, 2)?;
-    counted(&rt, 3, 3)?;
-    counted(&rt, 4, 3)?;
-    counted(&rt, 4, 4)
+    counted(&rt)
 }

@@ -1,5 +1,5 @@
--- The rules' doings at what the code holds: a unit paid or not, an item noted or not, an answer
--- by its variant, and what is done for each of a list in turn. Assumes nothing.
+-- The rules' doings at what the code holds: a unit paid or not, an item noted or not, and what is done for each of a list in
+-- turn. Assumes nothing.
 use mathlib.Core.Path.{◌≡◌, refl, sym}
 use mathlib.Core.List.{List, [], ◌∷◌, append-nil}
 use Prim.Native.Nat.{ℕ, zero, suc, ◌+◌, ◌-◌, ◌≤◌, ◌<◌}
@@ -10,11 +10,8 @@ use lib.Seq.{take-suc-set}
 use Rattle.rules.specs.Image.{Image}
 use Rattle.rules.specs.Doing as rules
 use Rattle.rules.specs.Doing.{Act, item_of, because, Now, Outcome, refused, went, each}
-use Rattle.doing.specs.Held.{refusal_of, now_of, outcome_of, noted}
-use Rattle.doing.specs.declared.Refusal.{Refusal}
+use Rattle.doing.specs.Held.{now_of, noted}
 use Rattle.doing.specs.declared.Counts.{Counts}
-use Rattle.doing.specs.declared.Done.{Done}
-use Rattle.doing.specs.declared.Done.TheVariants.{Refused, Went}
 
 pub pay-unpaid : (im : Image) (tr : List ℕ) (k : Counts) → k.units ≡ 0 → refused (because 16) ≡ rules.pay (now_of im tr k)
 unfolding rules.pay
@@ -57,15 +54,6 @@ pub as-noted : {o : Outcome (Unit {0})} {word : ℕ} (act : Act) (n : ℕ) (now 
 unfolding noted rules.note
 as-noted act n now e told = rw e at told
 
--- an answer by its variant: `after` computes with what it is
-pub went_on : {o : Outcome (Unit {0})} {d : Done} (im : Image) (tr : List ℕ) (k : Counts)
-    → outcome_of d im tr ≡ o → d ≡ Went k → o ≡ went tt (now_of im tr k)
-went_on im tr k e w = rw (sym e, w) refl
-
-pub was-refused : {o : Outcome (Unit {0})} {d : Done} (im : Image) (tr : List ℕ) (r : Refusal)
-    → outcome_of d im tr ≡ o → d ≡ Refused r → o ≡ refused (refusal_of r)
-was-refused im tr r e w = rw (sym e, w) refl
-
 -- for each of a list in turn, by what the first one does
 pub each_none : (f : ℕ → rules.Done) (n : Now) → each f [] n ≡ went tt n
 unfolding each rules.done rules.give
@@ -75,8 +63,3 @@ pub each-went : (f : ℕ → rules.Done) (x : ℕ) (xs : List ℕ) (n : Now) {n'
     → each f (x ∷ xs) n ≡ each f xs n'
 unfolding each rules.◌>>◌
 each-went f x xs n e = rw e refl
-
-pub each-refused : (f : ℕ → rules.Done) (x : ℕ) (xs : List ℕ) (n : Now) {r : rules.Refusal} → f x n ≡ refused r
-    → each f (x ∷ xs) n ≡ refused r
-unfolding each rules.◌>>◌
-each-refused f x xs n e = rw e refl

@@ -1,38 +1,17 @@
-// What a step has left and has noted, and how it goes on or is refused.
+// A step as it goes: the image, the trace and the counts, and what can be refused.
 #![tactic(auto)]
 
-ghost use Rattle.std.specs.Prelude.{◌≡◌, List, ℕ, ◌+◌, ◌*◌};
-ghost use Rattle.rules.specs.Image.{Image};
-ghost use Rattle.rules.specs.Doing as rules;
-ghost use Rattle.doing.specs.Held.{refusal_of, now_of, outcome_of, verdict_of, noted};
-
+use image::{active, history, variables};
 use rules::items::Item;
-
-// Why a call is refused: made by `because` alone, and carried as it is.
-#[derive(Clone, Copy)]
-pub struct Refusal {
-    pub number: u8,
-}
+use rules::numbers::StateNo;
+use rules::refusals::Refusal;
+use std::marker::Model;
 
 // The units left, and how many items were noted.
-#[derive(Clone, Copy)]
+#[derive(Clone, Copy, PartialEq, Eq, Debug)]
 pub struct Counts {
     pub units: u32,
     pub items: usize,
-}
-
-#[derive(Clone, Copy)]
-pub enum Done {
-    Refused(Refusal),
-    Went(Counts),
-}
-
-// A test that can be refused: the answer, and the counts after it.
-#[derive(Clone, Copy)]
-pub enum Verdict {
-    Refused(Refusal),
-    Yes(Counts),
-    No(Counts),
 }
 
 impl Counts {
@@ -40,54 +19,149 @@ impl Counts {
     pub const MOST_UNITS: u32 = 1_000_000;
 }
 
-impl Refusal {
-    pub fn because(number: u8) -> Refusal
-        ensures { refusal_of result ≡ rules.because number }
+#[derive(Drop)]
+pub struct Now<'a> {
+    image: &'a mut [u8],
+    trace: &'a mut [u32],
+    counts: Counts,
+}
+
+impl<'a> Model for Now<'a> {
+    ghost use Rattle.rules.specs.Doing as rules;
+    ghost use Rattle.doing.specs.Held.{now_of};
+
+    ghost Value = { rules.Now };
+
+    ghost view = { λ n. now_of n.image.now n.trace.now n.counts };
+}
+
+impl<'a> Now<'a> {
+    ghost use Rattle.std.specs.Prelude.{◌≡◌, ◌++◌, ◌-◌, length, replicate, OnErr};
+    ghost use Rattle.rules.specs.Types.{word_of};
+    ghost use Rattle.rules.specs.Image as image-rules;
+    ghost use Rattle.rules.specs.Doing as rules;
+    ghost use Rattle.doing.specs.Held.{now_of, noted};
+    ghost use Rattle.doing.specs.Outcomes.{outcome_of, with_image};
+
+    pub fn new(image: &'a mut [u8], trace: &'a mut [u32], counts: Counts) -> Now<'a>
+        ensures { result ≡ now_of image.old trace.old counts }
     {
-        Refusal { number }
-    }
-}
-
-// One unit is paid, or 16.
-pub fn pay(counts: Counts) -> Done
-    ensures { (im : Image) (tr : List ℕ) → outcome_of result im tr ≡ rules.pay (now_of im tr counts) }
-{
-    if counts.units == 0 {
-        return Done::Refused(Refusal::because(16));
-    }
-    Done::Went(Counts {
-        units: counts.units - 1,
-        items: counts.items,
-    })
-}
-
-// One item is noted, or 20: the lent words are all the room there is.
-pub fn note(trace: &mut [u32], counts: Counts, item: Item) -> Done
-    ensures { (im : Image) → outcome_of result im trace.new ≡ noted (item.kind * 65536 + item.number) (now_of im trace.old counts) }
-{
-    let at = counts.items;
-    if trace.len() <= at {
-        return Done::Refused(Refusal::because(20));
-    }
-    trace[at] = item.word();
-    Done::Went(Counts {
-        units: counts.units,
-        items: at + 1,
-    })
-}
-
-// What was done, as a test with that answer.
-pub fn told(done: Done, answer: bool) -> Verdict
-    ensures { (im : Image) (tr : List ℕ) → verdict_of result im tr ≡ rules.after (outcome_of done im tr) (λ _. rules.give answer) }
-{
-    match done {
-        Done::Refused(why) => Verdict::Refused(why),
-        Done::Went(counts) => {
-            if answer {
-                Verdict::Yes(counts)
-            } else {
-                Verdict::No(counts)
-            }
+        Now {
+            image,
+            trace,
+            counts,
         }
+    }
+
+    pub fn image(&self) -> &[u8]
+        ensures { result.now ≡ self.now.image }
+    {
+        self.image
+    }
+
+    pub fn units(&self) -> u32
+        ensures { result ≡ self.now.units }
+    {
+        self.counts().units
+    }
+
+    // The items noted, as far as the trace has them.
+    pub fn items(&self) -> &[u32]
+        ensures { self.now.trace ≡ result.now ++ replicate (length self.now.trace - length result.now) 0 }
+    {
+        &self.trace[..self.counts.items.min(self.trace.len())]
+    }
+
+    // The units left, and how many items were noted.
+    pub fn counts(&self) -> Counts
+        ensures { (result.units ≡ self.now.units) × (result.items ≡ length self.now.trace) }
+    {
+        Counts {
+            units: self.counts.units,
+            items: self.counts.items,
+        }
+    }
+
+    // One unit is paid, or 16.
+    pub fn pay(&mut self) -> Result<(), Refusal>
+        ensures came { outcome_of result self.new ≡ rules.pay self.old }
+        ensures kept { OnErr result (self.new ≡ self.old) }
+    {
+        if self.counts.units == 0 {
+            return Err(Refusal::NoUnit);
+        }
+        self.counts.units -= 1;
+        Ok(())
+    }
+
+    // One item is noted, or 20.
+    pub fn note(&mut self, item: Item) -> Result<(), Refusal>
+        ensures came { outcome_of result self.new ≡ noted (word_of item) self.old }
+        ensures kept { OnErr result (self.new ≡ self.old) }
+    {
+        self.note_word(item.word())
+    }
+
+    // The same by its word: the lent words are all the room there is.
+    pub fn note_word(&mut self, word: u32) -> Result<(), Refusal>
+        ensures came { outcome_of result self.new ≡ noted word self.old }
+        ensures kept { OnErr result (self.new ≡ self.old) }
+    {
+        let at = self.counts.items;
+        if self.trace.len() <= at {
+            return Err(Refusal::NoRoom);
+        }
+        self.trace[at] = word;
+        self.counts.items = at + 1;
+        Ok(())
+    }
+
+    // The image's fields, and changes of them.
+    pub fn not_started(&self) -> bool
+        ensures { result ≡ image-rules.not_started self.now.image }
+    {
+        active::not_started(self.image)
+    }
+
+    pub fn is_active(&self, s: StateNo) -> bool
+        ensures { result ≡ image-rules.is_active self.now.image s.0 }
+    {
+        active::is_active(self.image, s)
+    }
+
+    pub fn recorded(&self, s: StateNo) -> StateNo
+        ensures { result.0 ≡ image-rules.recorded self.now.image s.0 }
+    {
+        history::recorded(self.image, s)
+    }
+
+    pub fn variable(&self, v: u8) -> i32
+        ensures { result ≡ image-rules.variable self.now.image v }
+    {
+        variables::value(self.image, v)
+    }
+
+    pub fn activate(&mut self, s: StateNo)
+        ensures { self.new ≡ with_image (image-rules.activate self.old.image s.0) self.old }
+    {
+        active::activate(self.image, s);
+    }
+
+    pub fn deactivate(&mut self, s: StateNo)
+        ensures { self.new ≡ with_image (image-rules.deactivate self.old.image s.0) self.old }
+    {
+        active::deactivate(self.image, s);
+    }
+
+    pub fn record_child(&mut self, p: StateNo, s: StateNo)
+        ensures { self.new ≡ with_image (image-rules.record_child self.old.image p.0 s.0) self.old }
+    {
+        history::record_child(self.image, p, s);
+    }
+
+    pub fn set_variable(&mut self, v: u8, z: i32)
+        ensures { self.new ≡ with_image (image-rules.set_variable self.old.image v z) self.old }
+    {
+        variables::set(self.image, v, z);
     }
 }

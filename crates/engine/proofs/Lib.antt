@@ -3,7 +3,7 @@ pub mod Telling
 pub mod Listing
 pub mod Units
 pub mod Turning
+pub mod Holding
 pub mod Running
-pub mod Following
-pub mod Searching
 pub mod Sending
+pub mod Searching

@@ -7,33 +7,31 @@ use Prim.Native.Nat.{ℕ, zero, suc, ◌+◌, ◌-◌, ◌≤◌, ◌<◌}
 use native.Mathlib.Omega.{arith}
 use native.Mathlib.Numerals.{add-one}
 use lib.Dec.{eqb, ltb, leb}
-use lib.ListN.{length}
+use Rattle.std.specs.Prelude.{Result, Ok, Err}
+use Rattle.std.specs.Result.{IsErrAnd}
 use borrow.Author.Tests.{eqb-true, eqb-false, ne_eqb, ltb-true, ltb-false}
 use Rattle.rules.specs.Lists.{when◌then◌else◌, range, keep, first}
 use Rattle.rules.specs.Chart.{State, Segment, Chart, deepest, states, parent, is_one_of, children, during, outer, inner, code}
-use Rattle.rules.specs.Image.{Image, is_active}
-use Rattle.rules.specs.Doing.{Refusal, Now, Outcome, refused, went, Done, give, done, after, ◌>>=◌, ◌>>◌, look, pay, during_point, note, each, when_active}
+use Rattle.rules.specs.Image.{is_active}
+use Rattle.rules.specs.Doing.{Now, Outcome, went, Done, give, done, after, ◌>>=◌, ◌>>◌, look, pay, during_point, note, each, when_active}
 use Rattle.rules.specs.Block.{Ran, ran, abandoned, unless_abandoned, send_from, perform}
 use Rattle.rules.specs.Search.{Found, reached, nowhere, ended, run_abandoned, search}
 use Rattle.rules.specs.Fire.{levels, fire}
 use Rattle.rules.specs.Run.{follow, run_active, run_children, run_inside, run_during, run, send}
-use Rattle.rules.specs.declared.headers.Header.{Header}
+use Rattle.rules.specs.declared.refusals.Refusal.{Refusal}
 use Rattle.rules.proofs.Laws.{both}
 use Rattle.chart.specs.Places.{header_of}
 use Rattle.chart.specs.Read.{children_from}
 use Rattle.chart.proofs.Ranges.{keep-end, keep-pass, keep-skip}
-use Rattle.doing.specs.Held.{refusal_of, now_of, verdict_of}
-use Rattle.doing.specs.declared.Refusal.{Refusal as CodeRefusal}
-use Rattle.doing.specs.declared.Counts.{Counts}
-use Rattle.doing.specs.declared.Verdict.{Verdict}
-use Rattle.doing.specs.declared.Verdict.TheVariants as verdict
+use Rattle.doing.specs.Outcomes.{outcome_of}
 use Rattle.doing.proofs.Laws.{each_none, each-went}
 use Rattle.moves.proofs.Follows.{less_one}
+use Rattle.doing.proofs.Sequels.{refused-ends, went-next}
 use Rattle.engine.specs.Told.{is_abandoned, acted, ending, followed, inside_alone, run_alone}
 use Rattle.engine.specs.Turns.{Whose, at, nobody, next_from, childs_turn, next_turn}
-use Rattle.engine.proofs.Turning.{first_in, none-past, found_here, found-later, follows-none, follows_next, child-turn, too-deep, turn-child, turn-over, turn-above, in-depth}
+use Rattle.engine.proofs.Turning.{first_in, none-past, found_here, found-later, follows-none, follows_next, child-turn, too-deep, turn-child, turn-over, turn-above, InDepth, in-depth}
 use Rattle.engine.proofs.Joining.{after-after, after_same, after-done}
-use Rattle.engine.proofs.Units.{run_alone-falls, no-keeps, yes-keeps}
+use Rattle.engine.proofs.Units.{kept, run_alone-falls}
 
 module _ (c : Chart) (sends e : ℕ) (f : State → Done) (p : State) where
   -- what follows once p is run by itself
@@ -90,7 +88,7 @@ module _ (c : Chart) (sends e : ℕ) (f : State → Done) (p : State) where
       edge-then (outer c p) _ n ∙ after_same o rest_then ∙ sym (after-after o _ _)
 
 -- a run is a run by itself, then of the children
-pub run-alone : (c : Chart) (sends e d : ℕ) (p : State) (n : Now)
+run-alone : (c : Chart) (sends e d : ℕ) (p : State) (n : Now)
     → run c (send c sends) e (suc d) p n
     ≡ after (run_alone c sends e p n) (λ b. when b then done else run_children c (run c (send c sends) e d) p)
 unfolding run run_alone ◌>>=◌ ◌>>◌
@@ -188,7 +186,7 @@ module _ (c : Chart) (sends e : ℕ) where
   climb zero p = done
   climb (suc i) p = pending (deepest - i) (parent c p) (next_from c (header_of c) (parent c p) p) >> climb i (parent c p)
 
-  pub all-pending : (d : ℕ) (p : State) (n : Now) → pending d p 1 n ≡ run_children c (running d) p n
+  all-pending : (d : ℕ) (p : State) (n : Now) → pending d p 1 n ≡ run_children c (running d) p n
   unfolding pending run_children run_active children_from children
   all-pending d p n = refl
 
@@ -209,7 +207,7 @@ module _ (c : Chart) (sends e : ℕ) where
     nobody-pending true q root none = one_of d p from n q ∙ rw none
     nobody-pending false q root none = all_of d p from n q ∙ none-active c (running d) p (states c - from) from (states c) n refl root none
 
-    pub past-pending : states c ≤ from → pending d p from n ≡ went tt n
+    past-pending : states c ≤ from → pending d p from n ≡ went tt n
     past-pending past =
         nobody-pending (is_one_of c p) refl (λ z. omega arith) (none-past c n.image p from (states c) past)
 
@@ -319,7 +317,7 @@ module _ (c : Chart) (sends e : ℕ) where
   next-turned i p from n false q root later = child-turned (suc i) p from n (eqb-false _ _ q)
 
   -- what is left is the turn of whoever is next
-  pub turn-taken : (d : ℕ) (p : State) (from : ℕ) (n : Now) → (from ≡ 0 → states c ≡ 0)
+  turn-taken : (d : ℕ) (p : State) (from : ℕ) (n : Now) → (from ≡ 0 → states c ≡ 0)
       → (pending (deepest - d) p from >> climb d p) n ≡ turned (next_turn c (header_of c) n.image d p from) n
   unfolding climb
   turn-taken zero p from n root = first-turned p from n (eqb (child_at 0 p from n) 0) refl root
@@ -327,93 +325,63 @@ module _ (c : Chart) (sends e : ℕ) where
       next-turned i p from n (eqb (child_at (suc i) p from n) 0) refl root
       (turn-taken i (parent c p) _ n (next-root (parent c p) p (is_one_of c (parent c p)) (leb (states c) p) refl refl))
 
-  -- p is run by itself: over, or its children are pending
-  module _ (d : ℕ) (p : State) (n : Now) (deep : d ≤ deepest) where
-    alone-first : (running (levels - d) p >> climb d p) n
-        ≡ after (after (run_alone c sends e p n) (λ b. when b then done else run_children c (running (deepest - d)) p)) (λ _. climb d p)
+  -- p is run by itself: then it is over, or its children are pending
+  module _ (d : ℕ) (p : State) where
+    abbrev after_alone : Bool → Done
+    after_alone b = (when b then done else run_children c (running (deepest - d)) p) >> climb d p
+
+    alone-first : (n : Now) → d ≤ deepest → turned (at p d) n ≡ after (run_alone c sends e p n) after_alone
     unfolding ◌>>◌
-    alone-first =
+    alone-first n deep =
         let z : levels - d ≡ suc (deepest - d) = omega arith in
-        rw z (ap (λ (o : Outcome (Unit {0})). after o (λ _. climb d p)) (run-alone c sends e (deepest - d) p n))
+        rw z (ap (λ (o : Outcome (Unit {0})). after o (λ _. climb d p)) (run-alone c sends e (deepest - d) p n)
+        ∙ after-after (run_alone c sends e p n) _ _)
 
-    alone-refused : {r : Refusal} → run_alone c sends e p n ≡ refused r → (running (levels - d) p >> climb d p) n ≡ refused r
-    alone-refused q = alone-first ∙ rw q
+    -- its children have their turn from this number on
+    abbrev from_of : Bool → ℕ
+    from_of b = when b then states c else 1
 
-    alone-over : {n' : Now} → run_alone c sends e p n ≡ went true n'
-        → (running (levels - d) p >> climb d p) n ≡ turned (next_turn c (header_of c) n'.image d p (states c)) n'
+    alone-turned : (b : Bool) (n : Now) → after_alone b n ≡ turned (next_turn c (header_of c) n.image d p (from_of b)) n
     unfolding ◌>>◌ when◌then◌else◌ done give
-    alone-over {n'} q =
-        alone-first ∙ rw q
-        (sym (ap (λ (o : Outcome (Unit {0})). after o (λ _. climb d p)) (past-pending (deepest - d) p (states c) n' (omega arith)))
-        ∙ turn-taken d p (states c) n' (λ z. z))
+    alone-turned true n =
+        sym (ap (λ (o : Outcome (Unit {0})). after o (λ _. climb d p)) (past-pending (deepest - d) p (states c) n (omega arith)))
+        ∙ turn-taken d p (states c) n (λ z. z)
+    alone-turned false n =
+        sym (ap (λ (o : Outcome (Unit {0})). after o (λ _. climb d p)) (all-pending (deepest - d) p n))
+        ∙ turn-taken d p 1 n (λ z. absurd (omega arith))
 
-    alone-goes-on : {n' : Now} → run_alone c sends e p n ≡ went false n'
-        → (running (levels - d) p >> climb d p) n ≡ turned (next_turn c (header_of c) n'.image d p 1) n'
-    unfolding ◌>>◌ when◌then◌else◌
-    alone-goes-on {n'} q =
-        alone-first ∙ rw q
-        (sym (ap (λ (o : Outcome (Unit {0})). after o (λ _. climb d p)) (all-pending (deepest - d) p n'))
-        ∙ turn-taken d p 1 n' (λ z. absurd (omega arith)))
+-- the loop's invariant: what is left to run from a turn on is what there was to run
+pub record Runs (c : Chart) (sends e : ℕ) (top : State) (n₀ : Now) (turn : Whose) (n : Now) : Type 0 where
+  pub units : n.units ≤ n₀.units
+  pub depth : InDepth turn
+  pub same : turned c sends e turn n ≡ running c sends e levels top n₀
 
--- the loop's invariant: to run p and what is left then is to run the state that the run began at
-pub record Runs (c : Chart) (sends e : ℕ) (im₀ : Image) (tr₀ : List ℕ) (k₀ : Counts) (top : State)
-    (im : Image) (tr : List ℕ) (k : Counts) (p : State) (d : ℕ) : Type 0 where
-  pub image : length im ≡ length im₀
-  pub trace : length tr ≡ length tr₀
-  pub units : k.units ≤ k₀.units
-  pub depth : d ≤ deepest
-  pub same : (running c sends e (levels - d) p >> climb c sends e d p) (now_of im tr k) ≡ running c sends e levels top (now_of im₀ tr₀ k₀)
+module _ {c : Chart} {sends e : ℕ} {top : State} where
+  pub runs-start : (n : Now) → Runs c sends e top n (at top 0) n
+  unfolding ◌>>◌ climb
+  runs-start n = record { units = omega arith; depth = omega arith; same = after-done (running c sends e levels top n) }
 
-pub runs-start : {c : Chart} {sends e : ℕ} {im : Image} {tr : List ℕ} {k : Counts} {top : State} → Runs c sends e im tr k top im tr k top 0
-unfolding ◌>>◌ climb
-runs-start {c} {sends} {e} {im} {tr} {k} {top} =
-    record {
-      image = refl;
-      trace = refl;
-      units = omega arith;
-      depth = omega arith;
-      same = after-done (running c sends e levels top (now_of im tr k));
-    }
-
--- p, run by itself with k, left k': it is the turn of whoever is next
-pub record Between (c : Chart) (h : Header) (sends e : ℕ) (im₀ : Image) (tr₀ : List ℕ) (k₀ : Counts) (top : State)
-    (k : Counts) (p : State) (d : ℕ) (im : Image) (tr : List ℕ) (k' : Counts) (from : ℕ) : Type 0 where
-  pub fewer : k'.units < k.units
-  pub same : turned c sends e (next_turn c h im d p from) (now_of im tr k') ≡ running c sends e levels top (now_of im₀ tr₀ k₀)
-
-module _ {c : Chart} {sends e : ℕ} {im₀ : Image} {tr₀ : List ℕ} {k₀ : Counts} {top : State}
-    {im : Image} {tr : List ℕ} {k : Counts} {p : State} {d : ℕ} (runs : Runs c sends e im₀ tr₀ k₀ top im tr k p d) where
-  module _ {v : Verdict} (im' : Image) (tr' : List ℕ) (told : verdict_of v im' tr' ≡ run_alone c sends e p (now_of im tr k)) where
-    pub runs-refused : {r : CodeRefusal} → v ≡ verdict.Refused r → refused (refusal_of r) ≡ running c sends e levels top (now_of im₀ tr₀ k₀)
-    runs-refused q = sym (alone-refused c sends e d p (now_of im tr k) runs.depth (rw q at (sym told))) ∙ runs.same
-
-    module _ {h : Header} (own : h ≡ header_of c) where
-      pub between-over : {k' : Counts} {from : ℕ} → v ≡ verdict.Yes k' → from ≡ h.states → Between c h sends e im₀ tr₀ k₀ top k p d im' tr' k' from
-      between-over q f =
-          record {
-            fewer = yes-keeps (now_of im tr k) im' tr' (run_alone-falls c sends e p) told q;
-            same = rw (f, own) (sym (alone-over c sends e d p (now_of im tr k) runs.depth (rw q at (sym told))) ∙ runs.same);
-          }
-
-      pub between-on : {k' : Counts} {from : ℕ} → v ≡ verdict.No k' → from ≡ 1 → Between c h sends e im₀ tr₀ k₀ top k p d im' tr' k' from
-      between-on q f =
-          record {
-            fewer = no-keeps (now_of im tr k) im' tr' (run_alone-falls c sends e p) told q;
-            same = rw (f, own) (sym (alone-goes-on c sends e d p (now_of im tr k) runs.depth (rw q at (sym told))) ∙ runs.same);
-          }
-
-  module _ {im' : Image} {tr' : List ℕ} {k' : Counts} {h : Header} {from : ℕ} (between : Between c h sends e im₀ tr₀ k₀ top k p d im' tr' k' from) where
-    pub runs-over : next_turn c h im' d p from ≡ nobody → went tt (now_of im' tr' k') ≡ running c sends e levels top (now_of im₀ tr₀ k₀)
+  module _ {n₀ n : Now} where
+    pub runs-over : Runs c sends e top n₀ nobody n → went tt n ≡ running c sends e levels top n₀
     unfolding done give
-    runs-over q = rw q at between.same
+    runs-over runs = runs.same
 
-    pub runs-next : {s : State} {d' : ℕ} → next_turn c h im' d p from ≡ at s d' → length im' ≡ length im → length tr' ≡ length tr
-        → Runs c sends e im₀ tr₀ k₀ top im' tr' k' s d'
-    runs-next q li lt =
-        record {
-          image = li ∙ runs.image;
-          trace = lt ∙ runs.trace;
-          units = omega (arith, between.fewer, runs.units);
-          depth = rw q at (in-depth c h im' d p from);
-          same = rw q at between.same;
-        }
+    module _ {p : State} {d : ℕ} (runs : Runs c sends e top n₀ (at p d) n) (n' : Now) {r : Result Bool Refusal}
+        (says : outcome_of r n' ≡ run_alone c sends e p n) where
+      pub runs-refused : {why : Refusal} → r ≡ Err why → (all : Result (Unit {0}) Refusal) (n'' : Now) → IsErrAnd all (λ e. e ≡ why)
+          → outcome_of all n'' ≡ running c sends e levels top n₀
+      runs-refused is all n'' told =
+          refused-ends n' (after_alone c sends e d p) says is all n'' told ∙ sym (alone-first c sends e d p n runs.depth) ∙ runs.same
+
+      pub runs-next : {b : Bool} → r ≡ Ok b → {from : ℕ} → from ≡ when b then states c else 1
+          → {w : Whose} → w ≡ next_turn c (header_of c) n'.image d p from → Runs c sends e top n₀ w n'
+      runs-next {b} is f t =
+          let fewer = kept (run_alone-falls c sends e p) n n' says is in
+          rw (t, f)
+          (record {
+            units = omega (arith, fewer, runs.units);
+            depth = in-depth c (header_of c) n'.image d p _;
+            same =
+                went-next n' (after_alone c sends e d p) says is (sym (alone-turned c sends e d p b n'))
+                ∙ sym (alone-first c sends e d p n runs.depth) ∙ runs.same;
+          })

@@ -1,59 +1,70 @@
--- The search as the loops do it: the path is all that waits, since each segment of it says which list goes on after it.
--- What is to do from a place in the loops is what was to do at the start: one law for each way through. Assumes nothing.
+-- The search as the loop does it: the path is all that waits, since each segment of it says which list goes on after it.
+-- What is to do from a place in the loop is what was to do at the start: one law for each way through. Assumes nothing.
 use mathlib.Core.Path.{◌≡◌, refl, sym, ◌∙◌}
 use mathlib.Core.Bool.{Bool, true, false}
-use mathlib.Core.List.{List, [], ◌∷◌, ◌++◌}
+use mathlib.Core.Bool as B
+use mathlib.Core.List.{List, [], ◌∷◌, ◌++◌, append-nil}
 use Prim.Native.Nat.{ℕ, zero, suc, ◌+◌, ◌*◌, ◌-◌, ◌≤◌, ◌<◌}
 use native.Mathlib.Omega.{arith}
-use native.Mathlib.Numerals.{add-one}
 use lib.Dec.{eqb}
-use lib.ListN.{length, take, get_or, set, length-set}
-use lib.Seq.{take-set-le, get_or-set_same, get_or-set_other, take-suc-set}
+use lib.ListN.{length}
 use borrow.Author.Tests.{ne_eqb}
+use Rattle.std.specs.Prelude.{Option, Some, None, Result, Ok, Err}
+use Rattle.std.specs.Option.{is_some}
+use Rattle.std.specs.Result.{IsErrAnd}
+use Rattle.std.proofs.Common.{append_assoc, length-append}
+use Rattle.std.proofs.lemmas.Result.{err_from_is_err_and}
 use Rattle.rules.specs.Lists.{when◌then◌else◌}
-use Rattle.rules.specs.Bytes.{byte}
-use Rattle.rules.specs.Chart.{State, Segment, Chart, condition_action, destination, ends_on_state, from_junction, code}
-use Rattle.rules.specs.Image.{Image}
+use Rattle.rules.specs.Chart.{State, Segment, Chart, condition_action, destination_kind, destination, ends_on_state, from_junction, code}
 use Rattle.rules.specs.Doing.{Now, Outcome, refused, went, Doing, after, give, refuse, ◌>>=◌, ◌>>◌, pay, segment_passed, note}
 use Rattle.rules.specs.Block.{Ran, ran, abandoned, unless_abandoned, send_from, perform}
 use Rattle.rules.specs.Search.{Found, reached, nowhere, ended, run_abandoned, or_next, passes, tries, passed, search}
 use Rattle.rules.specs.Run.{send}
-use Rattle.rules.specs.declared.headers.Header.{Header}
 use Rattle.rules.specs.declared.numbers.SegmentNo.{SegmentNo}
-use Rattle.chart.specs.Places.{header_of, segment_place}
-use Rattle.chart.specs.Read.{starting_from, first_segment}
-use Rattle.chart.specs.declared.segments.Next.{Next}
-use Rattle.chart.specs.declared.segments.Next.TheVariants as next-is
-use Rattle.chart.proofs.Own.{own-own}
-use Rattle.doing.specs.Held.{refusal_of, now_of}
-use Rattle.doing.specs.declared.Refusal.{Refusal}
-use Rattle.doing.specs.declared.Counts.{Counts}
-use Rattle.moves.proofs.Follows.{less_one}
+use Rattle.rules.specs.declared.numbers.StateNo.{StateNo}
+use Rattle.rules.specs.declared.numbers.JunctionNo.{JunctionNo}
+use Rattle.rules.specs.declared.refusals.Refusal.{Refusal}
+use Rattle.chart.specs.Read.{end_named}
+use Rattle.chart.specs.declared.segments.End.{End}
+use Rattle.chart.specs.declared.segments.End.TheVariants as end
+use Rattle.doing.specs.Outcomes.{outcome_of}
 use Rattle.engine.specs.declared.cycle.Tried.{Tried}
-use Rattle.engine.specs.declared.cycle.Tried.TheVariants as tried-is
-use Rattle.engine.specs.Told as told
-use Rattle.engine.specs.Told.{Try, failed, owner_gone, tried_of, is_abandoned, later, list_of, tested, acted, passing, passing_within, tried}
+use Rattle.engine.specs.declared.cycle.Tried.TheVariants.{Failed, Passed, Abandoned}
+use Rattle.engine.specs.declared.cycle.Found.{Found as CodeFound}
+use Rattle.engine.specs.Told.{path_after, found_of, is_abandoned, later, list_of, tested, acted, passing, passing_within, tried}
 use Rattle.engine.proofs.Joining.{after-after, after_same}
-use Rattle.engine.proofs.Listing.{list-of-first}
-use Rattle.engine.proofs.Units.{tried-falls}
+use Rattle.moves.proofs.Follows.{less_one}
+use Rattle.engine.proofs.Units.{kept, tried-falls}
 
--- what the code reads of a segment, by the chart's own header
-module _ (c : Chart) (h : Header) (t : Segment) (is-own : h ≡ header_of c) where
-  pub rest-by-first : {next : Next}
-      → next ≡ first_segment (starting_from c h (byte c (segment_place h t + 2)) (byte c (segment_place h t + 3)) (t + 1))
-      → list_of c next ≡ later c t
-  unfolding later
-  rest-by-first e = list-of-first c _ _ _ refl (rw is-own at e)
+-- a path grows by one segment at most
+grows : (x : Tried) (path : List Segment) (t : Segment) → length (path_after x path t) ≤ length path + 1
+grows Failed path t = omega arith
+grows Passed path t = rw length-append (omega arith)
+grows Abandoned path t = rw length-append (omega arith)
 
-  pub kind-read : {b b' : Bool} → b ≡ eqb (byte c (segment_place h t + 4)) 0 → b ≡ b' → ends_on_state c t ≡ b'
-  kind-read e q = sym (rw is-own at e) ∙ q
+-- where a segment leads, as the code tells it
+module _ (c : Chart) (t : Segment) where
+  by-kind : (b : Bool) → eqb (destination_kind c t) 0 ≡ b → {x : End} → x ≡ end_named (destination_kind c t) (destination c t)
+      → x ≡ (when b then end.State (record { 0 = destination c t }) else end.Junction (record { 0 = destination c t }))
+  by-kind b q is = rw q at is
 
-  pub end_read : {j : ℕ} → j ≡ byte c (segment_place h t + 5) → j ≡ destination c t
-  end_read e = rw is-own at e
+  to-state : {s : StateNo} → end.State s ≡ end_named (destination_kind c t) (destination c t)
+      → (ends_on_state c t ≡ true) × (s.0 ≡ destination c t)
+  unfolding when◌then◌else◌
+  to-state {s} is = go (eqb (destination_kind c t) 0) refl
+    where
+      go : (b : Bool) → eqb (destination_kind c t) 0 ≡ b → (ends_on_state c t ≡ true) × (s.0 ≡ destination c t)
+      go true q = let e = by-kind true q is in (q, cc)
+      go false q = let e = by-kind false q is in absurd cc
 
-  pub own-by-first : {j : ℕ} {next : Next} → next ≡ first_segment (starting_from c h 2 j 0) → j ≡ byte c (segment_place h t + 5)
-      → list_of c next ≡ from_junction c (destination c t)
-  own-by-first e q = list-of-first c _ _ _ refl (rw (is-own, end_read q) at e) ∙ own-own c _
+  to-junction : {j : JunctionNo} → end.Junction j ≡ end_named (destination_kind c t) (destination c t)
+      → (ends_on_state c t ≡ false) × (j.0 ≡ destination c t)
+  unfolding when◌then◌else◌
+  to-junction {j} is = go (eqb (destination_kind c t) 0) refl
+    where
+      go : (b : Bool) → eqb (destination_kind c t) 0 ≡ b → (ends_on_state c t ≡ false) × (j.0 ≡ destination c t)
+      go true q = let e = by-kind true q is in absurd cc
+      go false q = let e = by-kind false q is in (q, cc)
 
 -- a list that is tried, with the path to it and how many more may pass
 record Level : Type 0 where
@@ -79,10 +90,10 @@ module _ (c : Chart) (n e : ℕ) (s : State) where
       else rest (record { more = m; path = path ++ (t ∷ []); list = from_junction c (destination c t) } ∷ ls)
 
   -- how it goes on by what trying a segment came to
-  onward : ℕ → List Segment → Segment → List Level → Try → Doing Found
-  onward m path t ls failed = rest ls
-  onward m path t ls owner_gone = give run_abandoned
-  onward m path t ls told.passed = leads (m - 1) path t ls (ends_on_state c t) (eqb (length (from_junction c (destination c t))) 0)
+  onward : ℕ → List Segment → Segment → List Level → Tried → Doing Found
+  onward m path t ls Failed = rest ls
+  onward m path t ls Abandoned = give run_abandoned
+  onward m path t ls Passed = leads (m - 1) path t ls (ends_on_state c t) (eqb (length (from_junction c (destination c t))) 0)
 
   -- where nothing was found the next list is tried, and the one below it: these two are one
   or-or : (o : Found) (m k : Doing Found) (now : Now) → after (or_next o m now) (λ x. or_next x k) ≡ or_next o (m >>= (λ x. or_next x k)) now
@@ -116,7 +127,7 @@ module _ (c : Chart) (n e : ℕ) (s : State) where
 
     acted-on : (m : ℕ) (r : Ran) (now : Now)
         → (when is_abandoned r then give run_abandoned else leads m path t (below (suc m)) (ends_on_state c t) (eqb (length (from_junction c (destination c t))) 0)) now
-        ≡ onward (suc m) path t (below (suc m)) (when is_abandoned r then owner_gone else told.passed) now
+        ≡ onward (suc m) path t (below (suc m)) (when is_abandoned r then Abandoned else Passed) now
     unfolding is_abandoned when◌then◌else◌ onward
     acted-on m (ran st) now = rw (less_one m)
     acted-on m abandoned now = refl
@@ -124,7 +135,7 @@ module _ (c : Chart) (n e : ℕ) (s : State) where
     -- it was tested
     tested-ways : (m : ℕ) (b : Bool) (now : Now)
         → after ((when b then passed c (send c n) e s m path t else give nowhere) now) (or_below m)
-        ≡ after ((when b then passing_within c n m s t else give failed) now) (onward m path t (below m))
+        ≡ after ((when b then passing_within c n m s t else give Failed) now) (onward m path t (below m))
     unfolding passed passing_within passing acted when◌then◌else◌ give refuse or_next onward rest ◌>>=◌ ◌>>◌
     tested-ways m false now = refl
     tested-ways zero true now = refl
@@ -147,197 +158,117 @@ module _ (c : Chart) (n e : ℕ) (s : State) where
   nothing-after (went ended now) = refl
   nothing-after (went run_abandoned now) = refl
 
--- the lists that wait, by the path: each segment of it says which one
-waiting : Chart → List Segment → ℕ → List Level
-waiting c path zero = []
-waiting c path (suc k) = record { more = 128 - k; path = take k path; list = later c (get_or path k 0) } ∷ waiting c path k
+-- the lists that wait, by the path: each segment of it says which one. They are put before some others
+module _ (c : Chart) where
+  waiting_on : List Segment → List Segment → List Level → List Level
+  waiting_on path [] ls = ls
+  waiting_on path (t ∷ ts) ls = waiting_on (path ++ (t ∷ [])) ts (record { more = 128 - length path; path = path; list = later c t } ∷ ls)
 
-waiting-set : (c : Chart) (path : List Segment) (k j : ℕ) (t : Segment) → k ≤ j → waiting c (set path j t) k ≡ waiting c path k
-unfolding waiting
-waiting-set c path zero j t h = refl
-waiting-set c path (suc k) j t h =
-    let k' : k ≤ j = omega arith in
-    rw (take-set-le k path j t, get_or-set_other path j k t 0 (λ q. omega arith), waiting-set c path k j t k')
+  waiting : List Segment → List Level
+  waiting path = waiting_on [] path []
 
--- where the loops stand
-pub record Place : Type 0 where
-  pub path : List Segment
-  pub length : ℕ
-  pub next : Next
-  pub image : Image
-  pub trace : List ℕ
-  pub left : Counts
+  waiting-more : (path ts : List Segment) (t : Segment) (ls : List Level) → waiting_on path (ts ++ (t ∷ [])) ls
+      ≡ record { more = 128 - length (path ++ ts); path = path ++ ts; list = later c t } ∷ waiting_on path ts ls
+  unfolding waiting_on
+  waiting-more path [] t ls = rw append-nil
+  waiting-more path (u ∷ us) t ls =
+      rw (append_assoc path (u ∷ []) us) at
+      (waiting-more (path ++ (u ∷ [])) us t (record { more = 128 - length path; path = path; list = later c u } ∷ ls))
+
+  -- whether the list that a next segment begins has any
+  none-there : (next : Option SegmentNo) → eqb (length (list_of c next)) 0 ≡ B.not (is_some next)
+  unfolding list_of
+  none-there None = refl
+  none-there (Some t) = ne_eqb (suc (length (later c t.0))) 0 (λ q. omega arith)
 
 module _ (c : Chart) (n e : ℕ) (s : State) where
-  -- what is still to do from there
-  pub to_do : Place → Outcome Found
-  to_do p =
-      rest c n e s
-      (record { more = 128 - p.length; path = take p.length p.path; list = list_of c p.next } ∷ waiting c p.path p.length)
-      (now_of p.image p.trace p.left)
+  -- what is still to do, with a path, from the next segment on
+  pub to_do : List Segment → Option SegmentNo → Doing Found
+  to_do path next = rest c n e s (record { more = 128 - length path; path = path; list = list_of c next } ∷ waiting c path)
 
-  pub starts : (path : List Segment) (first : Next) (im : Image) (tr : List ℕ) (k : Counts)
-      → to_do (record { path = path; length = 0; next = first; image = im; trace = tr; left = k })
-      ≡ search c (send c n) e s (list_of c first) (now_of im tr k)
-  unfolding to_do waiting rest search ◌>>=◌
-  starts path first im tr k = nothing-after c n e s _
+  -- the loop: what is still to do is what there was to do
+  pub record Still (first : Segment) (n₀ : Now) (path : List Segment) (next : Option SegmentNo) (now : Now) : Type 0 where
+    pub units : now.units ≤ n₀.units
+    pub same : to_do path next now ≡ search c (send c n) e s (first ∷ later c first) n₀
 
-  -- what was to do at the start is what is to do now, with no more units
-  pub record Still (p₀ p : Place) : Type 0 where
-    pub path : length p.path ≡ length p₀.path
-    pub image : length p.image ≡ length p₀.image
-    pub trace : length p.trace ≡ length p₀.trace
-    pub short : p.length ≤ 128
-    pub units : p.left.units ≤ p₀.left.units
-    pub falls : 2 * p.left.units + p.length ≤ 2 * p₀.left.units + p₀.length
-    pub same : to_do p₀ ≡ to_do p
+  pub still-start : (first : SegmentNo) (now : Now) → Still first.0 now [] (Some first) now
+  unfolding to_do waiting waiting_on rest search list_of ◌>>=◌
+  still-start first now = record { units = omega arith; same = nothing-after c n e s _ }
 
-  some-there : {next : Next} {t : SegmentNo} → next ≡ next-is.Segment t → eqb (length (list_of c next)) 0 ≡ false
-  unfolding list_of
-  some-there {t = t} z = rw z (ne_eqb (suc (length (later c t.0))) 0 (λ q. omega arith))
-
-  -- the list is used up, and the list below it goes on
-  popped : (path : List Segment) (k : ℕ) (now : Now) → (k ≡ 0 → ⊥) → {ts : List Segment} → ts ≡ later c (get_or path (k - 1) 0)
-      → rest c n e s (record { more = 128 - k; path = take k path; list = [] } ∷ waiting c path k) now
-      ≡ rest c n e s (record { more = 128 - (k - 1); path = take (k - 1) path; list = ts } ∷ waiting c path (k - 1)) now
-  unfolding rest tries waiting give or_next ◌>>=◌
-  popped path zero now z h = absurd (z refl)
-  popped path (suc k) now z h = rw (less_one k, rw (less_one k) at h)
-
-  -- a segment goes onto the path
-  pushed : (path : List Segment) (k : ℕ) (t : Segment) (ts : List Segment) (now : Now) → k < 128 → length path ≡ 128
-      → rest c n e s (record { more = 128 - k - 1; path = take k path ++ (t ∷ []); list = ts }
-      ∷ record { more = 128 - k; path = take k path; list = later c t } ∷ waiting c path k) now
-      ≡ rest c n e s (record { more = 128 - (k + 1); path = take (k + 1) (set path k t); list = ts } ∷ waiting c (set path k t) (k + 1)) now
-  unfolding waiting
-  pushed path k t ts now h l =
-      let m : 128 - k - 1 ≡ 128 - suc k = omega arith in
-      let i : k < length path = omega arith in
-      let z : k ≤ k = omega arith in
-      rw (add-one k, m, take-suc-set path k t i, get_or-set_same path k t 0 i, take-set-le k path k t z, waiting-set c path k k t z)
-
-  -- with no more to pass none passes
-  none_passes : (t : Segment) (o : Outcome Bool) (now : Now)
-      → after o (λ b. when b then passing_within c n zero s t else give failed) ≡ went told.passed now → ⊥
-  unfolding passing_within when◌then◌else◌ refuse give
-  none_passes t (refused r) now h = let z : ◌≡◌ {A = ℕ} 0 1 = cc in omega arith
-  none_passes t (went true now') now h = let z : ◌≡◌ {A = ℕ} 0 1 = cc in omega arith
-  none_passes t (went false now') now h = let z : ◌≡◌ {A = ℕ} 0 1 = cc in omega arith
-
-  pub still-start : (p : Place) → p.length ≤ 128 → Still p p
-  still-start p h =
-      record { path = refl; image = refl; trace = refl; short = h; units = omega arith; falls = omega arith; same = refl }
-
-  module _ {p₀ p : Place} (still : Still p₀ p) where
-    -- in a loop within the loop
-    pub still-within : {p' : Place} → Still p p' → Still p₀ p'
-    still-within on =
-        record {
-          path = on.path ∙ still.path;
-          image = on.image ∙ still.image;
-          trace = on.trace ∙ still.trace;
-          short = on.short;
-          units = omega (arith, on.units, still.units);
-          falls = omega (arith, on.falls, still.falls);
-          same = still.same ∙ on.same;
-        }
-
+  module _ {first : Segment} {n₀ : Now} {path : List Segment} {next : Option SegmentNo} {now : Now} (still : Still first n₀ path next now) where
     -- the list is used up
-    module _ (end : p.next ≡ next-is.End) where
-      pub at-end : p.length ≡ 0 → went nowhere (now_of p.image p.trace p.left) ≡ to_do p₀
-      unfolding to_do rest tries waiting list_of give or_next ◌>>=◌
-      at-end z = sym (still.same ∙ rw (end, z))
+    module _ (end : next ≡ None) where
+      pub at-end : path ≡ [] → went nowhere now ≡ search c (send c n) e s (first ∷ later c first) n₀
+      unfolding to_do rest tries waiting waiting_on list_of give or_next ◌>>=◌
+      at-end none = rw (none, end) at still.same
 
       -- the list below it goes on
-      pub below-goes-on : (p.length ≡ 0 → ⊥) → {next : Next} → list_of c next ≡ later c (get_or p.path (p.length - 1) 0)
-          → Still p₀ (record { path = p.path; length = p.length - 1; next = next; image = p.image; trace = p.trace; left = p.left })
-      unfolding to_do list_of
-      below-goes-on z h =
-          record {
-            path = still.path;
-            image = still.image;
-            trace = still.trace;
-            short = omega (arith, still.short);
-            units = still.units;
-            falls = omega (arith, still.falls);
-            same = still.same ∙ rw end (popped p.path p.length (now_of p.image p.trace p.left) z h);
-          }
+      pub below-goes-on : {path' : List Segment} (t : Segment) → path ≡ path' ++ (t ∷ []) → {next' : Option SegmentNo}
+          → list_of c next' ≡ later c t → Still first n₀ path' next' now
+      unfolding to_do rest tries waiting list_of give or_next ◌>>=◌
+      below-goes-on {path'} t p q = record { units = still.units; same = rw q (rw (end, p, waiting-more c [] path' t []) at still.same) }
 
     -- a segment is tried
-    module _ {t : SegmentNo} (here : p.next ≡ next-is.Segment t) (r : Tried) (im : Image) (tr : List ℕ)
-        (came : tried_of r im tr ≡ tried c n e s (128 - p.length) t.0 (now_of p.image p.trace p.left)) where
-      turned : to_do p₀ ≡ after (tried_of r im tr) (onward c n e s (128 - p.length) (take p.length p.path) t.0
-          (record { more = 128 - p.length; path = take p.length p.path; list = later c t.0 } ∷ waiting c p.path p.length))
+    abbrev with_its_list : Segment → List Level
+    with_its_list t = record { more = 128 - length path; path = path; list = later c t } ∷ waiting c path
+
+    module _ {t : SegmentNo} (here : next ≡ Some t) where
+      next-tried : after (tried c n e s (128 - length path) t.0 now) (onward c n e s (128 - length path) path t.0 (with_its_list t.0))
+          ≡ search c (send c n) e s (first ∷ later c first) n₀
       unfolding to_do list_of
-      turned = still.same ∙ rw here (rest-tried c n e s _ _ _ _ _ _ ∙ rw (sym came))
+      next-tried = sym (rest-tried c n e s _ _ _ _ _ _) ∙ (rw here at still.same)
 
-      pub tried-refused : {why : Refusal} → r ≡ tried-is.Refused why → refused (refusal_of why) ≡ to_do p₀
-      tried-refused w = sym (turned ∙ rw w)
+      module _ {r : Result Tried Refusal} (now' : Now) (says : outcome_of r now' ≡ tried c n e s (128 - length path) t.0 now) where
+        pub tried-refused : {why : Refusal} → r ≡ Err why → (all : Result CodeFound Refusal) (path' : List Segment) (n' : Now)
+            → IsErrAnd all (λ e. e ≡ why) → found_of all path' n' ≡ search c (send c n) e s (first ∷ later c first) n₀
+        tried-refused w all path' n' told = let p = err_from_is_err_and all told in rw (p.1, p.2) (rw (sym says, w) at next-tried)
 
-      pub tried-abandoned : {k : Counts} → r ≡ tried-is.Abandoned k → went run_abandoned (now_of im tr k) ≡ to_do p₀
-      unfolding onward give
-      tried-abandoned w = sym (turned ∙ rw w)
+        module _ {x : Tried} (w : r ≡ Ok x) {path' : List Segment} (p : path' ≡ path_after x path t.0) where
+          fewer : now'.units < now.units
+          fewer = kept (tried-falls c n e s _ _) now now' says w
 
-      pub failed-less : {k : Counts} → r ≡ tried-is.Failed k → k.units < p.left.units
-      failed-less w = (tried-falls c n e s _ _).at _ _ _ (sym (rw w at came))
+          -- each segment pays, and the path grows by it at most
+          pub tried-less : 2 * now'.units + length path' < 2 * now.units + length path
+          tried-less = let u = fewer in let l = grows x path t.0 in rw p (omega arith)
 
-      pub tried-failed : {k : Counts} → r ≡ tried-is.Failed k → length im ≡ length p.image → length tr ≡ length p.trace
-          → {next : Next} → list_of c next ≡ later c t.0
-          → Still p₀ (record { path = p.path; length = p.length; next = next; image = im; trace = tr; left = k })
-      unfolding to_do onward
-      tried-failed w li lt h =
-          let u = failed-less w in
-          record {
-            path = still.path;
-            image = li ∙ still.image;
-            trace = lt ∙ still.trace;
-            short = still.short;
-            units = omega (arith, still.units);
-            falls = omega (arith, still.falls);
-            same = turned ∙ rw (w, h);
-          }
+          came : onward c n e s (128 - length path) path t.0 (with_its_list t.0) x now' ≡ search c (send c n) e s (first ∷ later c first) n₀
+          came = rw (sym says, w) at next-tried
 
-      -- it passes
-      module _ {k : Counts} (w : r ≡ tried-is.Passed k) where
-        pub passed-less : k.units < p.left.units
-        passed-less = (tried-falls c n e s _ _).at _ _ _ (sym (rw w at came))
+          pub tried-abandoned : x ≡ Abandoned → went run_abandoned now' ≡ search c (send c n) e s (first ∷ later c first) n₀
+          unfolding onward give
+          tried-abandoned q = rw q at came
 
-        pub passed-short : p.length < 128
-        unfolding tried ◌>>=◌
-        passed-short =
-            let more : 128 - p.length ≡ 0 → ⊥ = λ z. none_passes t.0 (tested c e t.0 (now_of p.image p.trace p.left)) _ (sym (rw (z, w) at came)) in
-            omega arith
+          pub tried-failed : x ≡ Failed → {next' : Option SegmentNo} → list_of c next' ≡ later c t.0 → Still first n₀ path' next' now'
+          unfolding to_do onward
+          tried-failed q l = rw (p, q) (record { units = omega (arith, fewer, still.units); same = rw l (rw q at came) })
 
-        pub passed-within : length p₀.path ≡ 128 → p.length < length p.path
-        passed-within l = omega (arith, passed-short, still.path)
+          -- it passes, to a state or to a junction
+          module _ (q : x ≡ Passed) where
+            pub passed-reached : {target : StateNo} → end.State target ≡ end_named (destination_kind c t.0) (destination c t.0)
+                → went (reached target.0 path') now' ≡ search c (send c n) e s (first ∷ later c first) n₀
+            unfolding onward leads when◌then◌else◌ give
+            passed-reached is = let there = to-state c t.0 is in rw (p, q, there.1) (rw (q, there.0) at came)
 
-        -- to a state
-        pub passed-reached : length p₀.path ≡ 128 → ends_on_state c t.0 ≡ true → {target : State} → target ≡ destination c t.0
-            → went (reached target (take (p.length + 1) (set p.path p.length t.0))) (now_of im tr k) ≡ to_do p₀
-        unfolding onward leads when◌then◌else◌ give
-        passed-reached l b h =
-            sym (turned ∙ rw (w, b, h, add-one p.length, take-suc-set p.path p.length t.0 (passed-within l)))
+            led : {j : JunctionNo} → end.Junction j ≡ end_named (destination_kind c t.0) (destination c t.0)
+                → {list : List Segment} → list ≡ from_junction c j.0
+                → (when eqb (length list) 0 then give ended
+                else rest c n e s (record { more = 128 - length path - 1; path = path ++ (t.0 ∷ []); list = list } ∷ with_its_list t.0)) now'
+                ≡ search c (send c n) e s (first ∷ later c first) n₀
+            unfolding onward leads when◌then◌else◌
+            led is l = let there = to-junction c t.0 is in rw (l, there.1) (rw (q, there.0) at came)
 
-        -- to a junction
-        module _ (b : ends_on_state c t.0 ≡ false) {next : Next}
-            (h : list_of c next ≡ from_junction c (destination c t.0)) where
-          pub passed-ended : next ≡ next-is.End → went ended (now_of im tr k) ≡ to_do p₀
-          unfolding onward leads when◌then◌else◌ give list_of
-          passed-ended z = sym (turned ∙ rw (w, b, sym h, z))
+            module _ {j : JunctionNo} (is : end.Junction j ≡ end_named (destination_kind c t.0) (destination c t.0)) (next' : Option SegmentNo)
+                (l : list_of c next' ≡ from_junction c j.0) where
+              pub passed-ended : is_some next' ≡ false → went ended now' ≡ search c (send c n) e s (first ∷ later c first) n₀
+              unfolding when◌then◌else◌ give
+              passed-ended z = rw (none-there c next', z) at (led is l)
 
-          pub passed-onward : {t' : SegmentNo} → next ≡ next-is.Segment t' → length p₀.path ≡ 128
-              → length im ≡ length p.image → length tr ≡ length p.trace
-              → Still p₀ (record { path = set p.path p.length t.0; length = p.length + 1; next = next; image = im; trace = tr; left = k })
-          unfolding onward leads when◌then◌else◌ to_do
-          passed-onward z l li lt =
-              let u = passed-less in
-              let v = passed-short in
-              record {
-                path = length-set p.path p.length t.0 ∙ still.path;
-                image = li ∙ still.image;
-                trace = lt ∙ still.trace;
-                short = omega arith;
-                units = omega (arith, still.units);
-                falls = omega (arith, still.falls);
-                same = turned ∙ rw (w, b, sym h, some-there z) (pushed p.path p.length t.0 (list_of c next) _ v (still.path ∙ l));
-              }
+              pub passed-onward : is_some next' ≡ true → Still first n₀ path' next' now'
+              unfolding when◌then◌else◌ to_do waiting
+              passed-onward z =
+                  let less : 128 - length path - 1 ≡ 128 - (length path + 1) = omega arith in
+                  rw (p, q)
+                  (record {
+                    units = omega (arith, fewer, still.units);
+                    same = rw (length-append, sym less, waiting-more c [] path t.0 []) (rw (none-there c next', z) at (led is l));
+                  })

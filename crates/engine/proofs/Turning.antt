@@ -11,8 +11,8 @@ use Rattle.rules.specs.Chart.{State, Chart, deepest, parent, is_one_of}
 use Rattle.rules.specs.Image.{Image, is_active}
 use Rattle.rules.specs.declared.headers.Header.{Header}
 use Rattle.chart.specs.Read.{children_from}
-use Rattle.chart.proofs.Ranges.{keep-end, keep-pass, keep-skip}
 use Rattle.moves.proofs.Follows.{less_one}
+use Rattle.chart.proofs.Ranges.{keep-end, keep-pass, keep-skip}
 use Rattle.engine.specs.Turns.{Whose, at, nobody, next_from, childs_turn, turn_or, next_turn}
 
 -- the first active child of p from a up to e
@@ -25,19 +25,19 @@ module _ (c : Chart) (im : Image) (p : State) (a e : ℕ) where
   none-past h = rw (keep-end (λ s. eqb (parent c s) p) a e h)
 
   module _ (more : a < e) where
-    by-test : (t u : Bool) → eqb (parent c a) p ≡ t → is_active im a ≡ u
+    pub by-tests : (t u : Bool) → eqb (parent c a) p ≡ t → is_active im a ≡ u
         → first_in c im p a e ≡ when t && u then a else first_in c im p (a + 1) e
     unfolding first when◌then◌else◌
-    by-test false u q v = rw (keep-skip (λ s. eqb (parent c s) p) a e more q)
-    by-test true u q v = rw (keep-pass (λ s. eqb (parent c s) p) a e more q, v)
+    by-tests false u q v = rw (keep-skip (λ s. eqb (parent c s) p) a e more q)
+    by-tests true u q v = rw (keep-pass (λ s. eqb (parent c s) p) a e more q, v)
 
     pub found_here : eqb (parent c a) p && is_active im a ≡ true → first_in c im p a e ≡ a
     unfolding when◌then◌else◌
-    found_here q = rw (by-test (eqb (parent c a) p) (is_active im a) refl refl, q)
+    found_here q = rw (by-tests (eqb (parent c a) p) (is_active im a) refl refl, q)
 
     pub found-later : eqb (parent c a) p && is_active im a ≡ false → first_in c im p a e ≡ first_in c im p (a + 1) e
     unfolding when◌then◌else◌
-    found-later q = rw (by-test (eqb (parent c a) p) (is_active im a) refl refl, q)
+    found-later q = rw (by-tests (eqb (parent c a) p) (is_active im a) refl refl, q)
 
 module _ (c : Chart) (h : Header) where
   -- the number that follows a child

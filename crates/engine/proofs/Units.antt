@@ -1,27 +1,25 @@
 -- Units fall: what the engine's own definitions leave of them, and so what the code's answers have left, from the equation
 -- that holds an answer to its definition. Assumes nothing.
 use mathlib.Core.Path.{◌≡◌, sym}
-use mathlib.Core.Bool.{Bool, true, false}
+use mathlib.Core.Bool.{true, false}
+use Rattle.std.specs.Prelude.{Result, Ok}
 use mathlib.Core.List.{List}
-use Prim.Native.Nat.{ℕ, zero, suc, ◌<◌}
+use Prim.Native.Nat.{ℕ, zero, suc, ◌≤◌, ◌<◌}
 use native.Mathlib.Omega.{arith}
 use Rattle.rules.specs.Chart.{State, Segment, Chart, Block, Instruction, condition_action, during, inner, outer}
-use Rattle.rules.specs.Image.{Image}
-use Rattle.rules.specs.Doing.{Now, Doing, ◌>>=◌}
+use Rattle.rules.specs.Doing.{Now, Doing, ◌>>=◌, pay, Act, item_of, note}
 use Rattle.rules.specs.Block.{Stack}
 use Rattle.rules.specs.Search.{Found, reached, nowhere, ended, run_abandoned}
 use Rattle.rules.proofs.Closing.{no_send-has, instruct-has}
 use Rattle.rules.proofs.Keeping.{Keeps}
-use Rattle.rules.proofs.Spending.{both-went, Spends, spends, give-spends, refuse-spends, bind-spends, then-spends, if-spends, pay-then-strict, note-spends, send_from-spends, perform-spends, passes-spends, search-spends, fire-spends, send-spends}
-use Rattle.doing.specs.Held.{now_of, outcome_of, verdict_of}
-use Rattle.doing.specs.declared.Counts.{Counts}
-use Rattle.doing.specs.declared.Done.{Done}
-use Rattle.doing.specs.declared.Done.TheVariants as done
-use Rattle.doing.specs.declared.Verdict.{Verdict}
-use Rattle.doing.specs.declared.Verdict.TheVariants as verdict
-use Rattle.doing.proofs.Laws.{went_on}
+use Rattle.rules.proofs.Spending.{pay-strict, both-went, Spends, spends, give-spends, refuse-spends, bind-spends, then-spends}
+use Rattle.rules.proofs.Spending.{if-spends, pay-then-strict, note-spends, send_from-spends, perform-spends, passes-spends, search-spends, fire-spends, send-spends}
+use Rattle.rules.specs.declared.refusals.Refusal.{Refusal}
+use Rattle.doing.specs.Held.{noted}
+use Rattle.doing.specs.Outcomes.{outcome_of}
 use Rattle.blocks.specs.Code.{instructed, paid_for}
-use Rattle.engine.specs.Told.{failed, tested, paid_send, acted, passing, passing_within, tried, ending, followed, inside_alone, run_alone}
+use Rattle.engine.specs.declared.cycle.Tried.TheVariants.{Failed}
+use Rattle.engine.specs.Told.{tested, paid_send, acted, passing, passing_within, tried, ending, followed, inside_alone, run_alone}
 
 -- fewer units are left where it goes on
 abbrev pub Falls : {A : Type 0} → Doing A → Type 0
@@ -65,7 +63,7 @@ module _ (c : Chart) where
       pub tried-falls : (owner : State) (m : ℕ) (t : Segment) → Falls (tried c n e owner m t)
       unfolding tried
       tried-falls owner m t =
-          bind-falls _ (λ b. if-spends b (passing_within-spends m owner t) (give-spends failed)) (tested-falls e t)
+          bind-falls _ (λ b. if-spends b (passing_within-spends m owner t) (give-spends Failed)) (tested-falls e t)
 
       ending-spends : (p : State) (o : Found) → Spends (ending c n e p o)
       unfolding ending
@@ -90,14 +88,17 @@ module _ (c : Chart) where
           record
           { at = pay-then-strict (bind-spends (followed-spends p (outer c p)) (λ b. if-spends b (give-spends true) (inside_alone-spends p))) }
 
--- what a doing keeps from before to after it keeps to what its answer has left: as many units or fewer, or fewer
-module _ {R : Now → Now → Type 0} (n : Now) (im : Image) (tr : List ℕ) {k : Counts} where
-  pub went-keeps : {m : Doing (Unit {0})} → Keeps R m → {d : Done} → outcome_of d im tr ≡ m n → d ≡ done.Went k → R n (now_of im tr k)
-  went-keeps keeps told w = keeps.at n tt _ (went_on im tr k told w)
+-- what a doing keeps from before to after it, its answer keeps
+pub kept : {A : Type 0} {R : Now → Now → Type 0} {m : Doing A} → Keeps R m → (n n' : Now) {r : Result A Refusal} → outcome_of r n' ≡ m n
+    → {a : A} → r ≡ Ok a → R n n'
+kept keeps n n' says is = keeps.at n _ n' (sym (rw is at says))
 
-  module _ {m : Doing Bool} (keeps : Keeps R m) {v : Verdict} (told : verdict_of v im tr ≡ m n) where
-    pub no-keeps : v ≡ verdict.No k → R n (now_of im tr k)
-    no-keeps w = keeps.at n false _ (sym (rw w at told))
+-- a unit paid
+pub paid-less : (n n' : Now) {r : Result (Unit {0}) Refusal} → outcome_of r n' ≡ pay n → {u : Unit {0}} → r ≡ Ok u → n'.units < n.units
+paid-less n n' says is = kept (record { at = pay-strict }) n n' says is
 
-    pub yes-keeps : v ≡ verdict.Yes k → R n (now_of im tr k)
-    yes-keeps w = keeps.at n true _ (sym (rw w at told))
+-- an item noted
+pub noted-keeps : (act : Act) (k : ℕ) (n n' : Now) {r : Result (Unit {0}) Refusal} → outcome_of r n' ≡ noted (item_of act k) n
+    → {u : Unit {0}} → r ≡ Ok u → n'.units ≤ n.units
+unfolding noted note
+noted-keeps act k n n' says is = kept (note-spends act k) n n' says is

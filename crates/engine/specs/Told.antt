@@ -1,48 +1,38 @@
 -- What the engine's functions answer, as the rules have it, and the steps between the rules' definitions. Assumes nothing.
-use Rattle.std.specs.Prelude.{Bool, true, false, List, [], ◌∷◌, ℕ, zero, suc, ◌+◌, take}
+use Rattle.std.specs.Prelude.{Bool, true, false, List, [], ◌∷◌, ◌++◌, ℕ, zero, suc, ◌+◌, Option, Some, None, Result, Ok, Err}
 use Rattle.rules.specs.Lists.{when◌then◌else◌}
 use Rattle.rules.specs.Chart.{State, Segment, Chart, Block, Instruction, during, source_kind, source, condition_action, outer, inner, code}
-use Rattle.rules.specs.Image.{Image}
-use Rattle.rules.specs.Doing.{Outcome, refused, went, Doing, give, refuse, ◌>>=◌, ◌>>◌, pay, segment_passed, during_point, note}
+use Rattle.rules.specs.Doing.{Now, Outcome, refused, went, Doing, give, refuse, ◌>>=◌, ◌>>◌, pay, segment_passed, during_point, note}
 use Rattle.rules.specs.Block.{Ran, ran, abandoned, send_from, sent_to, perform}
 use Rattle.rules.specs.Search.{Found, reached, nowhere, ended, run_abandoned, passes, search}
 use Rattle.rules.specs.Fire.{fire}
 use Rattle.rules.specs.Run.{send}
+use Rattle.rules.specs.declared.numbers.SegmentNo.{SegmentNo}
+use Rattle.rules.specs.declared.refusals.Refusal.{Refusal}
 use Rattle.chart.specs.Places.{header_of}
 use Rattle.chart.specs.Read.{starting_from}
-use Rattle.chart.specs.declared.segments.Next.{Next}
-use Rattle.chart.specs.declared.segments.Next.TheVariants as next
-use Rattle.doing.specs.Held.{refusal_of, now_of}
+use Rattle.doing.specs.Outcomes.{refusal_of}
 use Rattle.engine.specs.declared.cycle.Tried.{Tried}
-use Rattle.engine.specs.declared.cycle.Tried.TheVariants as tried-is
+use Rattle.engine.specs.declared.cycle.Tried.TheVariants.{Failed, Passed, Abandoned}
 use Rattle.engine.specs.declared.cycle.Found.{Found as CodeFound}
-use Rattle.engine.specs.declared.cycle.Found.TheVariants as found-is
+use Rattle.engine.specs.declared.cycle.Found.TheVariants as it
 
--- what trying a segment comes to
-pub data Try : Type 0 where
-  failed passed owner_gone : Try
+-- the path once a segment was tried after it
+abbrev pub path_after : Tried → List Segment → Segment → List Segment
+path_after Failed path t = path
+path_after Passed path t = path ++ (t ∷ [])
+path_after Abandoned path t = path ++ (t ∷ [])
 
-abbrev pub tried_of : Tried → Image → List ℕ → Outcome Try
-tried_of (tried-is.Refused r) im tr = refused (refusal_of r)
-tried_of (tried-is.Failed k) im tr = went failed (now_of im tr k)
-tried_of (tried-is.Passed k) im tr = went passed (now_of im tr k)
-tried_of (tried-is.Abandoned k) im tr = went owner_gone (now_of im tr k)
+-- what a search comes to, with the path that it leaves
+abbrev pub found : CodeFound → List Segment → Found
+found (it.Reached s) path = reached s.0 path
+found it.Nowhere path = nowhere
+found it.Ended path = ended
+found it.Abandoned path = run_abandoned
 
--- what a search comes to, with the path, the image and the trace that it leaves
-abbrev pub found_of : CodeFound → List ℕ → Image → List ℕ → Outcome Found
-found_of (found-is.Refused r) path im tr = refused (refusal_of r)
-found_of (found-is.Reached w) path im tr = went (reached w.target.0 (take w.length path)) (now_of im tr w.counts)
-found_of (found-is.Nowhere k) path im tr = went nowhere (now_of im tr k)
-found_of (found-is.Ended k) path im tr = went ended (now_of im tr k)
-found_of (found-is.Abandoned k) path im tr = went run_abandoned (now_of im tr k)
-
--- how many places of the path it has used to reach a state
-abbrev pub length_of : CodeFound → ℕ
-length_of (found-is.Refused r) = 0
-length_of (found-is.Reached w) = w.length
-length_of (found-is.Nowhere k) = 0
-length_of (found-is.Ended k) = 0
-length_of (found-is.Abandoned k) = 0
+abbrev pub found_of : Result CodeFound Refusal → List Segment → Now → Outcome Found
+found_of (Err r) path n = refused (refusal_of r)
+found_of (Ok f) path n = went (found f path) n
 
 unfoldable pub is_abandoned : Ran → Bool
 is_abandoned (ran st) = false
@@ -54,9 +44,9 @@ module _ (c : Chart) where
   later t = starting_from c (header_of c) (source_kind c t) (source c t) (t + 1)
 
   -- a list of segments by its first
-  unfoldable pub list_of : Next → List Segment
-  list_of next.End = []
-  list_of (next.Segment t) = t.0 ∷ later t.0
+  unfoldable pub list_of : Option SegmentNo → List Segment
+  list_of None = []
+  list_of (Some t) = t.0 ∷ later t.0
 
   -- a segment is tried, and paid for before: whether it passes
   unfoldable pub tested : ℕ → Segment → Doing Bool
@@ -77,13 +67,13 @@ module _ (c : Chart) where
     passing owner t = note segment_passed t >> acted owner (condition_action c t)
 
     -- with so many segments more on the path at most
-    unfoldable pub passing_within : ℕ → State → Segment → Doing Try
+    unfoldable pub passing_within : ℕ → State → Segment → Doing Tried
     passing_within zero owner t = refuse 19
-    passing_within (suc m) owner t = passing owner t >>= (λ b. give (when b then owner_gone else passed))
+    passing_within (suc m) owner t = passing owner t >>= (λ b. give (when b then Abandoned else Passed))
 
     module _ (e : ℕ) where
-      unfoldable pub tried : State → ℕ → Segment → Doing Try
-      tried owner m t = tested e t >>= (λ b. when b then passing_within m owner t else give failed)
+      unfoldable pub tried : State → ℕ → Segment → Doing Tried
+      tried owner m t = tested e t >>= (λ b. when b then passing_within m owner t else give Failed)
 
       -- after a search a path to a state is fired: whether the run of p is over
       unfoldable pub ending : State → Found → Doing Bool

@@ -1,21 +1,20 @@
 -- Whose turn it is in a run, the states taken one after the other. Assumes nothing.
-use Rattle.std.specs.Prelude.{ℕ, zero, suc, ◌+◌, eqb, ltb, leb}
+use Rattle.std.specs.Prelude.{ℕ, zero, suc, ◌+◌, eqb, ltb, leb, Option, Some, None}
 use Rattle.rules.specs.Lists.{when◌then◌else◌, first}
 use Rattle.rules.specs.Chart.{State, Chart, deepest, parent, is_one_of}
 use Rattle.rules.specs.Image.{Image, is_active}
 use Rattle.rules.specs.declared.headers.Header.{Header}
 use Rattle.chart.specs.Read.{children_from}
-use Rattle.engine.specs.declared.turns.Turn.{Turn}
-use Rattle.engine.specs.declared.turns.Turn.TheVariants as turn
+use Rattle.engine.specs.declared.turns.Place.{Place}
 
 -- a state so many levels below the one that the run began at, or none any more
 pub data Whose : Type 0 where
   at : State → ℕ → Whose
   nobody : Whose
 
-abbrev pub turn_of : Turn → Whose
-turn_of (turn.Of p) = at p.state.0 p.depth
-turn_of turn.Over = nobody
+abbrev pub turn_of : Option Place → Whose
+turn_of (Some p) = at p.state.0 p.depth
+turn_of None = nobody
 
 module _ (c : Chart) (h : Header) where
   -- the number from which on the children of p have their turn after its child s

@@ -1,442 +1,252 @@
 // Run, search, block and send call each other in a cycle: a send runs a state, a run searches, a search performs blocks, and a
 // block sends. Each turn of it pays, so that the units left fall.
-ghost use Rattle.std.specs.Prelude.{◌≡◌, List, ℕ, ◌-◌, ◌≤◌, length};
-ghost use Rattle.rules.specs.Image.{Image};
-ghost use Rattle.rules.specs.Doing.{after, give};
+ghost use Rattle.std.specs.Prelude.{◌≡◌, [], ◌∷◌, ◌-◌, length};
+ghost use Rattle.std.specs.Result.{IfOk};
 ghost use Rattle.rules.specs.Block as block-rules;
 ghost use Rattle.rules.specs.Search as search-rules;
 ghost use Rattle.rules.specs.Fire.{levels};
 ghost use Rattle.rules.specs.Run as rules;
-ghost use Rattle.chart.specs.Places.{header_of};
 ghost use Rattle.chart.specs.Read.{block_of, instruction_from};
-ghost use Rattle.doing.specs.Held.{now_of, outcome_of, verdict_of};
+ghost use Rattle.doing.specs.Outcomes.{outcome_of};
 ghost use Rattle.engine.specs.Told as told;
-ghost use Rattle.engine.specs.Told.{tried_of, found_of, length_of, list_of};
+ghost use Rattle.engine.specs.Told.{path_after, found_of, list_of};
 
-use crate::turns::Turn;
+use crate::path::Path;
+use crate::turns::Place;
 use crate::{passing, turns};
 use blocks::action;
-use blocks::instruct::Performed;
+use blocks::stack::Stack;
 use chart::blocks::Block;
 use chart::instructions::Instruction;
-use chart::segments::Next;
-use chart::{instructions, segments, states};
-use doing::{Counts, Done, Refusal, Verdict};
-use image::active;
+use chart::segments::{End, Source};
+use chart::{Chart, instructions};
+use doing::Now;
 use moves::firing;
-use rules::headers::Header;
 use rules::items::Item;
 use rules::numbers::{SegmentNo, StateNo};
-
-// The segments of the longest path.
-const PATH: usize = 128;
-
-// The cells of a block's value stack.
-const CELLS: usize = Block::STACK as usize;
+use rules::refusals::Refusal;
 
 // What trying a segment comes to.
-#[derive(Clone, Copy)]
+#[derive(Clone, Copy, PartialEq, Eq, Debug)]
 pub enum Tried {
-    Refused(Refusal),
-    Failed(Counts), // it does not pass
-    Passed(Counts), // and its condition action is done
-    Abandoned(Counts), // the owner is gone
-}
-
-// A target state, and how long the path to it is.
-#[derive(Clone, Copy)]
-pub struct Way {
-    pub target: StateNo,
-    pub length: usize,
-    pub counts: Counts,
+    Failed, // it does not pass
+    Passed, // it is on the path, and its condition action is done
+    Abandoned, // the owner is gone
 }
 
 // What a search comes to.
-#[derive(Clone, Copy)]
+#[derive(Clone, Copy, PartialEq, Eq, Debug)]
 pub enum Found {
-    Refused(Refusal),
-    Reached(Way),
-    Nowhere(Counts), // no segment led to a state
-    Ended(Counts), // at a junction without segments
-    Abandoned(Counts), // the owner is gone
+    Reached(StateNo), // the path leads to this state
+    Nowhere, // no segment led to a state
+    Ended, // at a junction without segments
+    Abandoned, // the owner is gone
+}
+
+// The turn of a state in a run: with that event, and with so many sends more that can be opened.
+#[derive(Clone, Copy, PartialEq, Eq, Debug)]
+struct Turn {
+    state: StateNo,
+    event: u8,
+    sends: u8,
 }
 
 // Whether the owner of a block is not there any more after a send.
-fn gone(image: &[u8], owner: StateNo) -> bool
-    ensures { result ≡ block-rules.gone owner.0 image.now }
+fn gone(now: &Now, owner: StateNo) -> bool
+    ensures { result ≡ block-rules.gone owner.0 now.now.image }
 {
-    !active::is_active(image, owner)
-}
-
-// A segment that does not pass.
-fn failed(tested: Verdict) -> Tried
-    ensures { (im : Image) (tr : List ℕ) → tried_of result im tr ≡ after (verdict_of tested im tr) (λ _. give told.failed) }
-{
-    match tested {
-        Verdict::Refused(why) => Tried::Refused(why),
-        Verdict::Yes(left) => Tried::Failed(left),
-        Verdict::No(left) => Tried::Failed(left),
-    }
+    !now.is_active(owner)
 }
 
 // State b is run at once with that event, if it is active; otherwise nothing. So many sends more can be opened.
-#[cycle(alone_attempt_block_edge_inside_pass_run_search_send_send_from)]
-fn send(
-    chart: &[u8],
-    h: Header,
-    image: &mut [u8],
-    trace: &mut [u32],
-    counts: Counts,
-    sends: u8,
-    event: u8,
-    b: StateNo,
-) -> Done
-    requires { h ≡ header_of chart.now }
-    ensures { outcome_of result image.new trace.new ≡ rules.send chart.now sends event b.0 (now_of image.old trace.old counts) }
+#[cycle(running_and_sending)]
+fn send(chart: &Chart, now: &mut Now, sends: u8, event: u8, b: StateNo) -> Result<(), Refusal>
+    ensures { outcome_of result now.new ≡ rules.send chart.now sends event b.0 now.old }
 {
-    if !active::is_active(image, b) {
-        return Done::Went(counts);
+    if !now.is_active(b) {
+        return Ok(());
     }
     if sends == 0 {
-        return Done::Refused(Refusal::because(18));
+        return Err(Refusal::NinthSend);
     }
-    run(chart, h, image, trace, counts, sends - 1, event, b)
+    run(chart, now, sends - 1, event, b)
 }
 
-// The send at a place of a block's part of the chart, paid before it; whether the owner's block and run are abandoned then.
-#[cycle(alone_attempt_block_edge_inside_pass_run_search_send_send_from)]
+// The send at a place of a block's part of the chart, paid before it; whether the block and the turn are abandoned then.
+#[cycle(running_and_sending)]
 fn send_from(
-    chart: &[u8],
-    h: Header,
-    image: &mut [u8],
-    trace: &mut [u32],
-    counts: Counts,
-    sends: u8,
-    owner: StateNo,
+    chart: &Chart,
+    now: &mut Now,
+    turn: Turn,
     part: &[u8],
     place: u32,
-) -> Verdict
-    requires { h ≡ header_of chart.now }
-    ensures { verdict_of result image.new trace.new ≡ told.paid_send chart.now sends owner.0 (instruction_from part.now place) (now_of image.old trace.old counts) }
+) -> Result<bool, Refusal>
+    ensures { outcome_of result now.new ≡ told.paid_send chart.now turn.sends turn.state.0 (instruction_from part.now place) now.old }
 {
-    let paid = doing::pay(counts);
-    let Done::Went(left) = paid else {
-        return doing::told(paid, false);
-    };
+    now.pay()?;
     let event = instructions::a_at(part, place);
     let b = instructions::state_at(part, place);
-    let sent = send(chart, h, image, trace, left, sends, event, b);
-    doing::told(sent, gone(image, owner))
+    send(chart, now, turn.sends, event, b)?;
+    Ok(gone(now, turn.state))
 }
 
-// A block that can send; whether the rest of it and of the owner's run is abandoned.
-#[cycle(alone_attempt_block_edge_inside_pass_run_search_send_send_from)]
-fn block(
-    chart: &[u8],
-    h: Header,
-    image: &mut [u8],
-    trace: &mut [u32],
-    counts: Counts,
-    sends: u8,
-    owner: StateNo,
-    block: Block,
-) -> Verdict
-    requires { h ≡ header_of chart.now }
-    ensures { verdict_of result image.new trace.new ≡ told.acted chart.now sends owner.0 (block_of block) (now_of image.old trace.old counts) }
+// A block that can send; whether the rest of it and of the turn is abandoned.
+#[cycle(running_and_sending)]
+fn block(chart: &Chart, now: &mut Now, turn: Turn, block: Block) -> Result<bool, Refusal>
+    ensures { outcome_of result now.new ≡ told.acted chart.now turn.sends turn.state.0 (block_of block) now.old }
 {
     if block.count == 0 {
-        return Verdict::No(counts);
+        return Ok(false);
     }
-    let mut cells = [0i32; CELLS];
-    let part = instructions::of_block(chart, h, block);
-    let mut left = counts;
-    let mut taken: usize = 0;
+    let part = chart.code(block);
+    let mut stack = Stack::new();
     for k in 0..block.count {
         let place = Instruction::SIZE * (k as u32);
         if instructions::is_send(part, place) {
-            let sent = send_from(chart, h, image, trace, left, sends, owner, part, place);
-            let Verdict::No(after) = sent else {
-                return sent;
-            };
-            left = after;
+            if send_from(chart, now, turn, part, place)? {
+                return Ok(true);
+            }
         } else {
-            let performed = action::paid(part, k, &mut cells, taken, image, trace, left);
-            match performed {
-                Performed::Refused(why) => return Verdict::Refused(why),
-                Performed::Ran(next) => {
-                    left = next.counts;
-                    taken = next.taken;
-                }
-            }
+            action::paid(part, k, &mut stack, now)?;
         }
     }
-    Verdict::No(left)
+    Ok(false)
 }
 
-// A segment that passes: its item, then its condition action; whether the owner's run is abandoned.
-#[cycle(alone_attempt_block_edge_inside_pass_run_search_send_send_from)]
-fn pass(
-    chart: &[u8],
-    h: Header,
-    image: &mut [u8],
-    trace: &mut [u32],
-    counts: Counts,
-    sends: u8,
-    source: StateNo,
-    t: SegmentNo,
-) -> Verdict
-    requires { h ≡ header_of chart.now }
-    ensures { verdict_of result image.new trace.new ≡ told.passing chart.now sends source.0 t.0 (now_of image.old trace.old counts) }
+// A segment that passes: its item, then its condition action; whether the turn is abandoned.
+#[cycle(running_and_sending)]
+fn pass(chart: &Chart, now: &mut Now, turn: Turn, t: SegmentNo) -> Result<bool, Refusal>
+    ensures { outcome_of result now.new ≡ told.passing chart.now turn.sends turn.state.0 t.0 now.old }
 {
-    let noted = doing::note(trace, counts, Item::passed(t));
-    let Done::Went(left) = noted else {
-        return doing::told(noted, false);
-    };
-    let action = segments::condition_action(chart, h, t);
-    block(chart, h, image, trace, left, sends, source, action)
+    now.note(Item::Passed(t))?;
+    block(chart, now, turn, chart.condition_action(t))
 }
 
-// A segment is tried, with so many before it on the path: where it passes, its condition action is performed there and then.
-#[cycle(alone_attempt_block_edge_inside_pass_run_search_send_send_from)]
+// A segment is tried after those of a path: where it passes, it goes onto the path, and its condition action is performed
+// there and then.
+#[cycle(running_and_sending)]
 fn attempt(
-    chart: &[u8],
-    h: Header,
-    image: &mut [u8],
-    trace: &mut [u32],
-    counts: Counts,
-    sends: u8,
-    event: u8,
-    source: StateNo,
-    before: usize,
+    chart: &Chart,
+    now: &mut Now,
+    turn: Turn,
+    path: &mut Path,
     t: SegmentNo,
-) -> Tried
-    requires { h ≡ header_of chart.now }
-    ensures { tried_of result image.new trace.new ≡ told.tried chart.now sends event source.0 (128 - before) t.0 (now_of image.old trace.old counts) }
+) -> Result<Tried, Refusal>
+    ensures came { outcome_of result now.new ≡ told.tried chart.now turn.sends turn.event turn.state.0 (128 - length path.old) t.0 now.old }
+    ensures path { IfOk result (λ came. path.new ≡ path_after came path.old t.0) }
 {
-    let tested = passing::passes(chart, h, image, trace, counts, event, t);
-    let Verdict::Yes(left) = tested else {
-        return failed(tested);
-    };
-    if PATH <= before {
-        return Tried::Refused(Refusal::because(19));
+    if !passing::passes(chart, now, turn.event, t)? {
+        return Ok(Tried::Failed);
     }
-    let acted = pass(chart, h, image, trace, left, sends, source, t);
-    match acted {
-        Verdict::Refused(why) => Tried::Refused(why),
-        Verdict::Yes(after) => Tried::Abandoned(after),
-        Verdict::No(after) => Tried::Passed(after),
+    path.push(t)?;
+    if pass(chart, now, turn, t)? {
+        return Ok(Tried::Abandoned);
     }
+    Ok(Tried::Passed)
 }
 
-// The search along a list of segments and the lists of the junctions that they lead to, the path being all that waits.
-#[cycle(alone_attempt_block_edge_inside_pass_run_search_send_send_from)]
+// The search along a list of segments and the lists of the junctions that they lead to: the path is all that waits, since each
+// segment on it says which list goes on after it.
+#[cycle(running_and_sending)]
 fn search(
-    chart: &[u8],
-    h: Header,
-    image: &mut [u8],
-    trace: &mut [u32],
-    path: &mut [u16],
-    counts: Counts,
-    sends: u8,
-    event: u8,
-    source: StateNo,
-    first: Next,
-) -> Found
-    requires { (h ≡ header_of chart.now) × (length path.old ≡ 128) }
-    ensures { (found_of result path.new image.new trace.new ≡ search-rules.search chart.now (rules.send chart.now sends) event source.0 (list_of chart.now first) (now_of image.old trace.old counts)) × (length_of result ≤ 128) }
+    chart: &Chart,
+    now: &mut Now,
+    turn: Turn,
+    path: &mut Path,
+    first: SegmentNo,
+) -> Result<Found, Refusal>
+    requires { path.old ≡ [] }
+    ensures { found_of result path.new now.new ≡ search-rules.search chart.now (rules.send chart.now turn.sends) turn.event turn.state.0 (first.0 ∷ told.later chart.now first.0) now.old }
 {
-    let mut left = counts;
-    let mut length: usize = 0;
-    let mut next = first;
+    let mut next = Some(first);
     let found = 'search: loop {
-        loop {
-            let Next::Segment(t) = next else {
-                break;
-            };
-            let tried = attempt(
-                chart, h, image, trace, left, sends, event, source, length, t,
-            );
-            match tried {
-                Tried::Refused(why) => break 'search Found::Refused(why),
-                Tried::Abandoned(after) => break 'search Found::Abandoned(after),
-                Tried::Failed(after) => {
-                    left = after;
-                    next = segments::after(chart, h, t);
-                }
-                Tried::Passed(after) => {
-                    left = after;
-                    path[length] = t.0;
-                    length += 1;
-                    if segments::ends_on_state(chart, h, t) {
-                        break 'search Found::Reached(Way {
-                            target: segments::end_state(chart, h, t),
-                            length,
-                            counts: left,
-                        });
+        while let Some(t) = next {
+            match attempt(chart, now, turn, path, t)? {
+                Tried::Failed => next = chart.after(t),
+                Tried::Abandoned => break 'search Found::Abandoned,
+                Tried::Passed => match chart.end(t) {
+                    End::State(target) => break 'search Found::Reached(target),
+                    End::Junction(j) => {
+                        next = chart.first(Source::Junction(j));
+                        if next.is_none() {
+                            break 'search Found::Ended;
+                        }
                     }
-                    next = segments::from_junction(
-                        chart,
-                        h,
-                        segments::end_junction(chart, h, t),
-                        0,
-                    );
-                    if let Next::End = next {
-                        break 'search Found::Ended(left);
-                    }
-                }
+                },
             }
         }
-        if length == 0 {
-            break 'search Found::Nowhere(left);
-        }
-        length -= 1;
-        next = segments::after(chart, h, SegmentNo(path[length]));
+        let Some(last) = path.pop() else {
+            break 'search Found::Nowhere;
+        };
+        next = chart.after(last);
     };
-    found
+    Ok(found)
 }
 
-// The segments of an edge of p are searched from the first on, and a path to a state is fired; whether the run of p is over.
-#[cycle(alone_attempt_block_edge_inside_pass_run_search_send_send_from)]
-fn edge(
-    chart: &[u8],
-    h: Header,
-    image: &mut [u8],
-    trace: &mut [u32],
-    counts: Counts,
-    sends: u8,
-    event: u8,
-    p: StateNo,
-    first: Next,
-) -> Verdict
-    requires { h ≡ header_of chart.now }
-    ensures { verdict_of result image.new trace.new ≡ told.followed chart.now sends event p.0 (list_of chart.now first) (now_of image.old trace.old counts) }
+// The segments of an edge of the state are searched from the first on, and a path to a state is fired; whether the turn is over.
+#[cycle(running_and_sending)]
+fn edge(chart: &Chart, now: &mut Now, turn: Turn, first: Option<SegmentNo>) -> Result<bool, Refusal>
+    ensures { outcome_of result now.new ≡ told.followed chart.now turn.sends turn.event turn.state.0 (list_of chart.now first) now.old }
 {
-    if let Next::End = first {
-        return Verdict::No(counts);
-    }
-    let mut path = [0u16; PATH];
-    let found = search(
-        chart, h, image, trace, &mut path, counts, sends, event, p, first,
-    );
-    match found {
-        Found::Refused(why) => Verdict::Refused(why),
-        Found::Nowhere(left) => Verdict::No(left),
-        Found::Ended(left) => Verdict::No(left),
-        Found::Abandoned(left) => Verdict::Yes(left),
-        Found::Reached(way) => {
-            let left = way.counts;
-            let fired = firing::fire(
-                chart,
-                h,
-                image,
-                trace,
-                left,
-                p,
-                way.target,
-                &path[..way.length],
-            );
-            doing::told(fired, true)
+    let Some(first) = first else {
+        return Ok(false);
+    };
+    let mut path = Path::new();
+    match search(chart, now, turn, &mut path, first)? {
+        Found::Reached(target) => {
+            firing::fire(chart, now, turn.state, target, path.as_slice())?;
+            Ok(true)
         }
+        Found::Nowhere | Found::Ended => Ok(false),
+        Found::Abandoned => Ok(true),
     }
 }
 
-// State p is run by itself: outer segments, during action, inner segments; whether its run is over, so that no child is run.
-#[cycle(alone_attempt_block_edge_inside_pass_run_search_send_send_from)]
-fn alone(
-    chart: &[u8],
-    h: Header,
-    image: &mut [u8],
-    trace: &mut [u32],
-    counts: Counts,
-    sends: u8,
-    event: u8,
-    p: StateNo,
-) -> Verdict
-    requires { h ≡ header_of chart.now }
-    ensures { verdict_of result image.new trace.new ≡ told.run_alone chart.now sends event p.0 (now_of image.old trace.old counts) }
+// A state has its turn: outer segments, during action, inner segments; whether its run is over, so that no child is run.
+#[cycle(running_and_sending)]
+fn alone(chart: &Chart, now: &mut Now, turn: Turn) -> Result<bool, Refusal>
+    ensures { outcome_of result now.new ≡ told.run_alone chart.now turn.sends turn.event turn.state.0 now.old }
 {
-    let paid = doing::pay(counts);
-    let Done::Went(left) = paid else {
-        return doing::told(paid, false);
-    };
-    let outer = segments::outer(chart, h, p, 0);
-    let followed = edge(chart, h, image, trace, left, sends, event, p, outer);
-    let Verdict::No(rest) = followed else {
-        return followed;
-    };
-    inside(chart, h, image, trace, rest, sends, event, p)
+    now.pay()?;
+    let outer = chart.first(Source::Outer(turn.state));
+    if edge(chart, now, turn, outer)? {
+        return Ok(true);
+    }
+    inside(chart, now, turn)
 }
 
 // What follows where no outer segment reached a state: the during action, then the inner segments; whether the run is over.
-#[cycle(alone_attempt_block_edge_inside_pass_run_search_send_send_from)]
-fn inside(
-    chart: &[u8],
-    h: Header,
-    image: &mut [u8],
-    trace: &mut [u32],
-    counts: Counts,
-    sends: u8,
-    event: u8,
-    p: StateNo,
-) -> Verdict
-    requires { h ≡ header_of chart.now }
-    ensures { verdict_of result image.new trace.new ≡ told.inside_alone chart.now sends event p.0 (now_of image.old trace.old counts) }
+#[cycle(running_and_sending)]
+fn inside(chart: &Chart, now: &mut Now, turn: Turn) -> Result<bool, Refusal>
+    ensures { outcome_of result now.new ≡ told.inside_alone chart.now turn.sends turn.event turn.state.0 now.old }
 {
-    let noted = doing::note(trace, counts, Item::during(p));
-    let Done::Went(left) = noted else {
-        return doing::told(noted, false);
-    };
-    let acted = block(
-        chart,
-        h,
-        image,
-        trace,
-        left,
-        sends,
-        p,
-        states::during(chart, p),
-    );
-    let Verdict::No(rest) = acted else {
-        return acted;
-    };
-    let inner = segments::inner(chart, h, p, 0);
-    edge(chart, h, image, trace, rest, sends, event, p, inner)
+    now.note(Item::During(turn.state))?;
+    if block(chart, now, turn, chart.during(turn.state))? {
+        return Ok(true);
+    }
+    let inner = chart.first(Source::Inner(turn.state));
+    edge(chart, now, turn, inner)
 }
 
 // A state is run, and then what is active below it, each when its turn comes.
-#[cycle(alone_attempt_block_edge_inside_pass_run_search_send_send_from)]
-pub fn run(
-    chart: &[u8],
-    h: Header,
-    image: &mut [u8],
-    trace: &mut [u32],
-    counts: Counts,
-    sends: u8,
-    event: u8,
-    top: StateNo,
-) -> Done
-    requires { h ≡ header_of chart.now }
-    ensures { outcome_of result image.new trace.new ≡ rules.run chart.now (rules.send chart.now sends) event levels top.0 (now_of image.old trace.old counts) }
+#[cycle(running_and_sending)]
+pub fn run(chart: &Chart, now: &mut Now, sends: u8, event: u8, top: StateNo) -> Result<(), Refusal>
+    ensures { outcome_of result now.new ≡ rules.run chart.now (rules.send chart.now sends) event levels top.0 now.old }
 {
-    let mut left = counts;
-    let mut p = top;
-    let mut depth: u8 = 0;
-    loop {
-        let over = alone(chart, h, image, trace, left, sends, event, p);
-        let mut from = h.states;
-        match over {
-            Verdict::Refused(why) => return Done::Refused(why),
-            Verdict::Yes(after) => left = after,
-            Verdict::No(after) => {
-                left = after;
-                from = 1;
-            }
-        }
-        let next = turns::next(chart, h, image, p, from, depth);
-        let Turn::Of(place) = next else {
-            return Done::Went(left);
+    let h = chart.header();
+    let mut next = Some(Place {
+        state: top,
+        depth: 0,
+    });
+    while let Some(Place { state, depth }) = next {
+        let turn = Turn {
+            state,
+            event,
+            sends,
         };
-        p = place.state;
-        depth = place.depth;
+        let over = alone(chart, now, turn)?;
+        let from = if over { h.states } else { 1 };
+        next = turns::next(chart.bytes(), h, now.image(), state, from, depth);
     }
+    Ok(())
 }

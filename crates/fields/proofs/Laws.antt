@@ -1,16 +1,18 @@
 -- Laws of little-endian fields, the width in bytes a parameter, by recursion over it. Assumes nothing.
 use mathlib.Core.Path.{◌≡◌, refl, sym, ap, ◌∙◌}
-use mathlib.Core.List.{List}
+use mathlib.Core.List.{List, append_assoc}
 use mathlib.Core.Logic.{◌⊎◌, inl, inr}
-use Prim.Native.Nat.{ℕ, zero, suc, ◌+◌, ◌*◌, ◌/◌, ◌%◌, ◌^◌, ◌≤◌, ◌<◌}
+use Prim.Native.Nat.{ℕ, zero, suc, ◌+◌, ◌-◌, ◌*◌, ◌/◌, ◌%◌, ◌^◌, ◌≤◌, ◌<◌}
 use native.Mathlib.Nat.{mul_assoc, add-zero, zero-add, suc-add, pow-suc, pow-succ', div-div-eq-div-mul}
-use native.Mathlib.Numerals.{add-one}
 use native.Mathlib.Omega.{arith}
-use lib.Arith.{mod-mul}
-use lib.ListN.{length, set, drop, length-set, get_or-eq_default}
-use lib.Seq.{get_or-drop, get_or-set_same, set_out}
+use lib.ListN.{length, set, take, drop, get_or-eq_default}
+use lib.Seq.{get_or-drop, set_out, sets-eq}
+use borrow.Rule.Slice.PartMut.{put_mid, Post-is}
+use Rattle.std.specs.Int.{byte_at, bytes_low_first}
 use Rattle.rules.specs.Bytes.{byte, field, bytes_of, put}
-use Rattle.rules.proofs.Puts.{length-put, put_other}
+use Rattle.fields.specs.Back.{put-none, put-suc, lowest}
+pub use Rattle.fields.specs.Back.{field_put}
+use Rattle.rules.proofs.Puts.{length-bytes, length-put, put_other}
 
 -- a field of one byte is the byte
 pub field-one : (b : List ℕ) (i : ℕ) → field 1 b i ≡ byte b i
@@ -52,15 +54,6 @@ pub field_lt : (w : ℕ) (b : List ℕ) (i : ℕ) → ((k : ℕ) → byte b k < 
 field_lt zero b i bytes = omega arith
 field_lt (suc w) b i bytes = rw pow-succ' (omega (arith, bytes i, field_lt w b (i + 1) bytes))
 
--- no bytes put; w + 1 bytes put, lowest first
-put-none : (b : List ℕ) (i n : ℕ) → put 0 b i n ≡ b
-unfolding put bytes_of
-put-none b i n = refl
-
-pub put-suc : (w : ℕ) (b : List ℕ) (i n : ℕ) → put (suc w) b i n ≡ put w (set b i (n % 256)) (i + 1) (n / 256)
-unfolding put bytes_of
-put-suc w b i n = rw add-one
-
 -- one byte that is a byte is stored as it is
 pub put_one : (b : List ℕ) (i n : ℕ) → n < 256 → put 1 b i n ≡ set b i n
 unfolding put bytes_of
@@ -70,24 +63,6 @@ put_one b i n h = let e : n % 256 ≡ n = omega arith in rw e
 pub put-out : (w : ℕ) (b : List ℕ) (i n : ℕ) → length b ≤ i → put w b i n ≡ b
 put-out zero b i n h = put-none b i n
 put-out (suc w) b i n h = rw (put-suc w b i n, set_out b i (n % 256) h) (put-out w b (i + 1) (n / 256) (omega arith))
-
--- the lowest w + 1 bytes of n, from its lowest byte and the rest
-lowest : (w n : ℕ) → n % 256 ^ suc w ≡ n % 256 + 256 * (n / 256 % 256 ^ w)
-lowest w n = rw pow-suc (mod-mul n (positive w) (omega arith) ∙ omega arith)
-  where
-    positive : (w : ℕ) → 0 < 256 ^ w
-    positive zero = omega arith
-    positive (suc w) = rw pow-suc (omega (arith, positive w))
-
--- what was put is read back
-pub field_put : (w : ℕ) (b : List ℕ) (i n : ℕ) → i + w ≤ length b → field w (put w b i n) i ≡ n % 256 ^ w
-field_put zero b i n h = omega arith
-field_put (suc w) b i n h =
-    let after : List ℕ = set b i (n % 256) in
-    let here : byte (put w after (i + 1) (n / 256)) i ≡ n % 256 =
-    put_other w after (i + 1) (n / 256) i (omega arith) ∙ get_or-set_same b i (n % 256) 0 (omega arith) in
-    let rest = field_put w after (i + 1) (n / 256) (rw length-set (omega arith)) in
-    rw (put-suc w b i n) (omega (arith, here, rest, lowest w n))
 
 -- lists with the same bytes there have the same field there
 field-same : (w : ℕ) (a b : List ℕ) (i : ℕ) → ((k : ℕ) → i ≤ k → k < i + w → byte a k ≡ byte b k) → field w a i ≡ field w b i
@@ -118,3 +93,26 @@ put-split (suc j) k b i n =
 pub put-short : (j k : ℕ) (b : List ℕ) (i n : ℕ) → length b ≤ i + j → put (j + k) b i n ≡ put j b i (n % 256 ^ j)
 put-short j k b i n h =
     put-split j k b i n ∙ put-out k (put j b i (n % 256 ^ j)) (i + j) (n / 256 ^ j) (rw length-put h)
+
+-- the bytes that the machine makes of a number are the rules', from the lowest and from any on
+low-bytes-from : (i w n : ℕ) → bytes_low_first i w n ≡ bytes_of w (n / 256 ^ i)
+unfolding bytes_of
+low-bytes-from i zero n = refl
+low-bytes-from i (suc w) n =
+    let q : n / 256 ^ i / 256 ≡ n / 256 ^ suc i = div-div-eq-div-mul n (256 ^ i) 256 ∙ ap (λ (m : ℕ). n / m) (sym (pow-suc 256 i)) in
+    rw (here i, low-bytes-from (suc i) w n, q)
+  where
+    here : (i : ℕ) → byte_at i n ≡ n / 256 ^ i % 256
+    here zero = omega arith
+    here (suc i) = refl
+
+pub low-bytes : (w n : ℕ) → bytes_low_first 0 w n ≡ bytes_of w n
+low-bytes w n = let e : n / 256 ^ 0 ≡ n = omega arith in low-bytes-from 0 w n ∙ ap (bytes_of w) e
+
+-- and a part that they are copied into is as if they were put there
+pub put-part : (w : ℕ) (b : List ℕ) (i n : ℕ) (part : List ℕ) → i + w ≤ length b → part ≡ bytes_low_first 0 w n → put_mid i (i + w - i) b part ≡ put w b i n
+unfolding put
+put-part w b i n part h e =
+    let k = length-bytes w n in
+    rw (e, low-bytes w n, Post-is i (i + w) b (omega arith))
+    (sym (rw k at (sets-eq (bytes_of w n) b i (omega arith)) ∙ append_assoc (take i b) (bytes_of w n) (drop (i + w) b)))

@@ -1,204 +1,185 @@
 // Little-endian fields of a slice of bytes. Past the end a byte reads as 0, and a write changes nothing.
 #![tactic(auto)]
 
-ghost use Rattle.std.specs.Prelude.{◌≡◌, ◌+◌, ◌*◌, ◌≤◌, length};
-ghost use Rattle.rules.specs.Bytes.{byte, field, put, signed, unsigned};
+ghost use Rattle.std.specs.Prelude.{◌≡◌, ◌+◌, ◌^◌, ◌≤◌, ◌<◌, length, ℕ};
+ghost use Rattle.std.specs.Int.Signed.{mag};
+ghost use Rattle.std.proofs.Common.{rules};
+ghost use Rattle.rules.specs.Bytes.{Bytes, byte, field, put, signed, unsigned};
+ghost use Rattle.fields.specs.Back.{byte-back, number-back, value-back};
 
-fn join16(low: u8, high: u8) -> u16
-    ensures { result ≡ low + 256 * high }
-{
-    low as u16 + 256 * (high as u16)
+// What stands in a field of some bytes, lowest byte first: how many these are, its value where they stand in a list, and the
+// number that is put for it.
+pub trait Field {
+    ghost width: { ℕ };
+
+    ghost value: { Bytes → ℕ → Self };
+
+    ghost number: { Self → ℕ };
+
+    ghost fits: { Self → Type 0 };
+
+    fn at(s: &[u8], place: usize) -> Self
+        ensures { result ≡ value s.now place };
+
+    fn put(self, s: &mut [u8], place: usize)
+        ensures { s.new ≡ put width s.old place (number self) };
+
+    // What was put is read back.
+    ghost back: { (v : Self) → fits v → (s : Bytes) (i : ℕ) → i + width ≤ length s → value (put width s i (number v)) i ≡ v };
 }
 
-fn join32(low: u16, high: u16) -> u32
-    ensures { result ≡ low + 65536 * high }
-{
-    low as u32 + 65536 * (high as u32)
-}
+impl Field for u8 {
+    ghost width = { 1 };
 
-// Two bytes that are there, with no test, so that a field that is there whole is one load or store.
-fn pair(s: &[u8], at: usize) -> u16
-    requires { at + 2 ≤ length s.now }
-    ensures { result ≡ field 2 s.now at }
-{
-    join16(s[at], s[at + 1])
-}
+    ghost value = { byte };
 
-fn put_pair(s: &mut [u8], at: usize, v: u16)
-    requires { at + 2 ≤ length s.old }
-    ensures { s.new ≡ put 2 s.old at v }
-{
-    s[at] = (v % 256) as u8;
-    s[at + 1] = (v / 256) as u8;
-}
+    ghost number = { λ v. v };
 
-// The number of one, two and four bytes at a place.
-pub fn u8_at(s: &[u8], at: usize) -> u8
-    ensures { result ≡ byte s.now at }
-{
-    if at < s.len() { s[at] } else { 0 }
-}
+    ghost fits = { λ v. v < 2 ^ 8 };
 
-pub fn u16_at(s: &[u8], at: usize) -> u16
-    ensures { result ≡ field 2 s.now at }
-{
-    if at < s.len() {
-        if 1 < s.len() - at {
-            pair(s, at)
-        } else {
-            join16(s[at], 0)
-        }
-    } else {
-        0
+    ghost back = { byte-back };
+
+    fn at(s: &[u8], place: usize) -> u8 {
+        if place < s.len() { s[place] } else { 0 }
     }
-}
 
-pub fn u32_at(s: &[u8], at: usize) -> u32
-    ensures { result ≡ field 4 s.now at }
-{
-    if at < s.len() {
-        if 3 < s.len() - at {
-            join32(pair(s, at), pair(s, at + 2))
-        } else {
-            join32(u16_at(s, at), u16_at(s, at + 2))
-        }
-    } else {
-        0
-    }
-}
-
-// A number put as one, two and four bytes at a place.
-pub fn put_u8(s: &mut [u8], at: usize, v: u8)
-    ensures { s.new ≡ put 1 s.old at v }
-{
-    if at < s.len() {
-        s[at] = v;
-    }
-}
-
-pub fn put_u16(s: &mut [u8], at: usize, v: u16)
-    ensures { s.new ≡ put 2 s.old at v }
-{
-    if at < s.len() {
-        if 1 < s.len() - at {
-            put_pair(s, at, v);
-        } else {
-            put_u8(s, at, (v % 256) as u8);
+    fn put(self, s: &mut [u8], place: usize) {
+        if place < s.len() {
+            s[place] = self;
         }
     }
 }
 
-pub fn put_u32(s: &mut [u8], at: usize, v: u32)
-    ensures { s.new ≡ put 4 s.old at v }
-{
-    if at < s.len() {
-        let low = (v % 65536) as u16;
-        let high = (v / 65536) as u16;
-        if 3 < s.len() - at {
-            put_pair(s, at, low);
-            put_pair(s, at + 2, high);
+impl Field for u16 {
+    ghost width = { 2 };
+
+    ghost value = { field 2 };
+
+    ghost number = { λ v. v };
+
+    ghost fits = { λ v. v < 2 ^ 16 };
+
+    ghost back = { number-back 2 };
+
+    // A field that is there whole is one load or store.
+    fn at(s: &[u8], place: usize) -> u16 {
+        if place < s.len() {
+            if 1 < s.len() - place {
+                u16::from_le_bytes([s[place], s[place + 1]])
+            } else {
+                s[place] as u16
+            }
         } else {
-            put_u16(s, at, low);
-            put_u16(s, at + 2, high);
+            0
+        }
+    }
+
+    fn put(self, s: &mut [u8], place: usize) {
+        if place < s.len() {
+            if 1 < s.len() - place {
+                s[place..place + 2].copy_from_slice(&self.to_le_bytes());
+            } else {
+                s[place] = (self % 256) as u8;
+            }
         }
     }
 }
 
-// The signed value of a number of one, two and four bytes. No cast loses bits, so the upper half goes through -1.
-pub fn signed8(n: u8) -> i8
-    ensures { result ≡ signed 1 n }
-{
-    if n < 128 {
-        n as i8
-    } else {
-        -1 - ((255 - n) as i8)
+impl Field for u32 {
+    ghost width = { 4 };
+
+    ghost value = { field 4 };
+
+    ghost number = { λ v. v };
+
+    ghost fits = { λ v. v < 2 ^ 32 };
+
+    ghost back = { number-back 4 };
+
+    fn at(s: &[u8], place: usize) -> u32 {
+        if place < s.len() {
+            if 3 < s.len() - place {
+                u32::from_le_bytes([s[place], s[place + 1], s[place + 2], s[place + 3]])
+            } else {
+                let low = u16::at(s, place);
+                let high = u16::at(s, place + 2);
+                low as u32 + 65536 * (high as u32)
+            }
+        } else {
+            0
+        }
+    }
+
+    fn put(self, s: &mut [u8], place: usize) {
+        if place < s.len() {
+            if 3 < s.len() - place {
+                s[place..place + 4].copy_from_slice(&self.to_le_bytes());
+            } else {
+                let low = (self % 65536) as u16;
+                let high = (self / 65536) as u16;
+                low.put(s, place);
+                high.put(s, place + 2);
+            }
+        }
     }
 }
 
-pub fn signed16(n: u16) -> i16
-    ensures { result ≡ signed 2 n }
-{
-    if n < 32768 {
-        n as i16
-    } else {
-        -1 - ((65535 - n) as i16)
+impl Field for i8 {
+    ghost width = { 1 };
+
+    ghost value = { λ s i. signed 1 (field 1 s i) };
+
+    ghost number = { unsigned 1 };
+
+    ghost fits = { λ v. mag v < 2 ^ 7 };
+
+    ghost back = { λ v. value-back 1 v (Prim.search rules) };
+
+    fn at(s: &[u8], place: usize) -> i8 {
+        u8::at(s, place).cast_signed()
+    }
+
+    fn put(self, s: &mut [u8], place: usize) {
+        u8::put(self.cast_unsigned(), s, place);
     }
 }
 
-pub fn signed32(n: u32) -> i32
-    ensures { result ≡ signed 4 n }
-{
-    if n < 2147483648 {
-        n as i32
-    } else {
-        -1 - ((4294967295 - n) as i32)
+impl Field for i16 {
+    ghost width = { 2 };
+
+    ghost value = { λ s i. signed 2 (field 2 s i) };
+
+    ghost number = { unsigned 2 };
+
+    ghost fits = { λ v. mag v < 2 ^ 15 };
+
+    ghost back = { λ v. value-back 2 v (Prim.search rules) };
+
+    fn at(s: &[u8], place: usize) -> i16 {
+        u16::at(s, place).cast_signed()
+    }
+
+    fn put(self, s: &mut [u8], place: usize) {
+        u16::put(self.cast_unsigned(), s, place);
     }
 }
 
-// The number of a signed value.
-pub fn unsigned8(v: i8) -> u8
-    ensures { result ≡ unsigned 1 v }
-{
-    if v < 0 {
-        255 - ((-1 - v) as u8)
-    } else {
-        v as u8
+impl Field for i32 {
+    ghost width = { 4 };
+
+    ghost value = { λ s i. signed 4 (field 4 s i) };
+
+    ghost number = { unsigned 4 };
+
+    ghost fits = { λ v. mag v < 2 ^ 31 };
+
+    ghost back = { λ v. value-back 4 v (Prim.search rules) };
+
+    fn at(s: &[u8], place: usize) -> i32 {
+        u32::at(s, place).cast_signed()
     }
-}
 
-pub fn unsigned16(v: i16) -> u16
-    ensures { result ≡ unsigned 2 v }
-{
-    if v < 0 {
-        65535 - ((-1 - v) as u16)
-    } else {
-        v as u16
+    fn put(self, s: &mut [u8], place: usize) {
+        u32::put(self.cast_unsigned(), s, place);
     }
-}
-
-pub fn unsigned32(v: i32) -> u32
-    ensures { result ≡ unsigned 4 v }
-{
-    if v < 0 {
-        4294967295 - ((-1 - v) as u32)
-    } else {
-        v as u32
-    }
-}
-
-// The same fields, signed.
-pub fn i8_at(s: &[u8], at: usize) -> i8
-    ensures { result ≡ signed 1 (field 1 s.now at) }
-{
-    signed8(u8_at(s, at))
-}
-
-pub fn i16_at(s: &[u8], at: usize) -> i16
-    ensures { result ≡ signed 2 (field 2 s.now at) }
-{
-    signed16(u16_at(s, at))
-}
-
-pub fn i32_at(s: &[u8], at: usize) -> i32
-    ensures { result ≡ signed 4 (field 4 s.now at) }
-{
-    signed32(u32_at(s, at))
-}
-
-pub fn put_i8(s: &mut [u8], at: usize, v: i8)
-    ensures { s.new ≡ put 1 s.old at (unsigned 1 v) }
-{
-    put_u8(s, at, unsigned8(v));
-}
-
-pub fn put_i16(s: &mut [u8], at: usize, v: i16)
-    ensures { s.new ≡ put 2 s.old at (unsigned 2 v) }
-{
-    put_u16(s, at, unsigned16(v));
-}
-
-pub fn put_i32(s: &mut [u8], at: usize, v: i32)
-    ensures { s.new ≡ put 4 s.old at (unsigned 4 v) }
-{
-    put_u32(s, at, unsigned32(v));
 }

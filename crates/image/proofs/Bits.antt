@@ -2,11 +2,11 @@
 -- can lose it; so the byte at the place of a state's bit, read and stored again with the bit changed, gives the rules' image.
 -- Assumes nothing.
 use mathlib.Core.Path.{◌≡◌, sym, ap, ◌∙◌}
-use Prim.Native.Nat.{ℕ, zero, suc, ◌+◌, ◌-◌, ◌*◌, ◌/◌, ◌%◌, ◌^◌, ◌≤◌, ◌<◌}
+use Prim.Native.Nat.{ℕ, zero, suc, ◌+◌, ◌-◌, ◌*◌, ◌/◌, ◌%◌, ◌^◌, ◌<◌}
 use native.Mathlib.Nat.{one-mul, mod-eq_of_lt, mod-lt, div-div-eq-div-mul, pow-suc, pow-succ'}
 use native.Mathlib.Omega.{arith}
 use lib.Pow.{pow-lt}
-use lib.Dec.{eqb, lit<}
+use lib.Dec.{lit<}
 use lib.ListN.{set}
 use lib.Seq.{set-get_or}
 use mir.Syntax.{w8}
@@ -14,8 +14,7 @@ use mir.Val.{Fits}
 use borrow.Author.Tests.{eq-eqb, ne_eqb}
 use Rattle.rules.specs.Lists.{when◌then◌else◌}
 use Rattle.rules.specs.Bytes.{Bytes, byte, put}
-use Rattle.rules.proofs.Bits.{held}
-use Rattle.rules.specs.Image.{is_active, activate, deactivate}
+use Rattle.rules.specs.Image.{activate, deactivate}
 use Rattle.fields.proofs.Laws.{put_one}
 
 -- a number below 2 ^ n with bit k off has room for it
@@ -40,9 +39,6 @@ module _ (im : Bytes) (s : ℕ) {at b : ℕ} (here : at ≡ 2 + s / 8) (read : b
   own : byte im (2 + s / 8) ≡ b
   own = sym (read ∙ ap (byte im) here)
 
-  pub bit-read : eqb (b / 2 ^ (s % 8) % 2) 1 ≡ is_active im s
-  bit-read = rw own
-
   -- a bit that is off, turned on or left
   module _ (off : b / 2 ^ (s % 8) % 2 ≡ 1 → ⊥) where
     more : b < 256 → b + 2 ^ (s % 8) < 256
@@ -62,9 +58,6 @@ module _ (im : Bytes) (s : ℕ) {at b : ℕ} (here : at ≡ 2 + s / 8) (read : b
 
   -- a bit that is on, turned off or left
   module _ (on : b / 2 ^ (s % 8) % 2 ≡ 1) where
-    pub off-fits : 1 * 2 ^ (s % 8) % 256 ≤ b
-    off-fits = rw (shifted s) (held b (s % 8) on)
-
     pub off-stored : b < 256 → {at₂ : ℕ} {after : Bytes} → at₂ ≡ 2 + s / 8 → after ≡ put 1 im at₂ (b - 1 * 2 ^ (s % 8) % 256)
         → after ≡ deactivate im s
     unfolding when◌then◌else◌

@@ -1,7 +1,7 @@
--- Counting in one walk over the states, for each number that a parent can be, how many states name it. A table is right up
--- to state k; it stays right past k when k is counted at its parent, or when k does not count. Assumes nothing.
+-- Counting in one walk over the states, for each number that a parent can be, how many states name it. Counts are right up
+-- to state k; they stay right past k when one is added wherever k counts, and nowhere else. Assumes nothing.
 use mathlib.Core.Path.{◌≡◌, refl, sym, ap, ◌∙◌}
-use mathlib.Core.Bool.{Bool, true, false, cond, ◌&&◌, and-true, and-false}
+use mathlib.Core.Bool.{Bool, true, false, ◌&&◌}
 use mathlib.Core.List.{List, [], ◌∷◌, ◌++◌, append-nil}
 use Prim.Native.Nat.{ℕ, zero, suc, ◌+◌, ◌-◌, ◌≤◌, ◌<◌}
 use native.Mathlib.Nat.{add-zero}
@@ -9,16 +9,16 @@ use native.Mathlib.Omega.{arith}
 use lib.Dec.{eqb}
 use lib.ListN.{length, replicate, set, length-append, length-set, get_or-replicate}
 use lib.Seq.{get_or-set_same, get_or-set_other}
-use borrow.Author.Tests.{eqb-true, eqb-false, eq-eqb}
-use Rattle.rules.specs.Bytes.{Bytes, byte, put}
+use borrow.Author.Tests.{eqb-true, eqb-false}
 use Rattle.rules.specs.Lists.{when◌then◌else◌, up_from, range, keep}
 use Rattle.rules.specs.Chart.{State, Chart, states, parent, children, is_one_of}
 use Rattle.rules.specs.Image.{Image, is_active, shape_at}
 use Rattle.rules.proofs.Members.{keep-length}
 use Rattle.rules.proofs.Distinct.{up-length}
-use Rattle.fields.proofs.Laws.{put_one}
 use Rattle.chart.proofs.Ranges.{range-end}
-use Rattle.image.specs.Counted.{Counted}
+use Rattle.image.specs.Counted.{Counted, count_of, one_more}
+use Rattle.image.specs.declared.shape.Children.{Children}
+use Rattle.image.specs.declared.shape.Count.{Count}
 
 -- a range grows at its end
 up_more : (a n : ℕ) → up_from a (suc n) ≡ up_from a n ++ ((a + n) ∷ [])
@@ -67,48 +67,29 @@ unfolding keep
 keep-again f g [] = refl
 keep-again f g (x ∷ xs) = rw (test-again g (f x) x (keep f xs), keep-again f g xs)
 
--- a table that is right up to k: at each number p of a byte, how many of the numbers from 1 on the test of p keeps
-pub record Tally (f : State → State → Bool) (k : ℕ) (table : Bytes) : Type 0 where
-  pub size : length table ≡ 256
-  pub counts : (p : State) → p < 256 → byte table p ≡ length (keep (f p) (range 1 k))
+-- counts that are right up to k: for each number p of a byte, how many of the numbers from 1 on the test of p keeps
+pub record Tally (f : State → State → Bool) (k : ℕ) (n : State → ℕ) : Type 0 where
+  pub counts : (p : State) → p < 256 → n p ≡ length (keep (f p) (range 1 k))
 
 module _ (f : State → State → Bool) where
-  none-counted : {table : Bytes} → table ≡ replicate 256 0 → Tally f 1 table
+  none-counted : {n : State → ℕ} → ((p : State) → p < 256 → n p ≡ 0) → Tally f 1 n
   unfolding keep
-  none-counted e =
-      rw e
-      (record
-      { size = refl; counts = λ p h. get_or-replicate 256 p 0 0 h ∙ rw (range-end 1 1 (omega arith)) })
+  none-counted e = record { counts = λ p h. e p h ∙ rw (range-end 1 1 (omega arith)) }
 
-  module _ {k : ℕ} {table : Bytes} (t : Tally f k table) where
+  module _ {k : ℕ} {n : State → ℕ} (t : Tally f k n) where
     -- there is room for one more
-    pub tally-room : k < 256 → (q : State) → q < 256 → byte table q < 255
+    pub tally-room : k < 256 → (q : State) → q < 256 → n q < 255
     unfolding range
     tally-room h q hq = omega (arith, t.counts q hq, keep-length (f q) (range 1 k), up-length 1 (k - 1))
 
-    -- k counts at q, and nowhere else
-    count_at : (q : State) → q < 256 → 1 ≤ k → k < 256 → ((p : State) → f p k ≡ eqb q p) → {next : Bytes}
-        → next ≡ put 1 table q (byte table q + 1) → Tally f (k + 1) next
-    count_at q hq from small at {next} e =
-        rw stored
-        (record
-        { size = length-set table q (byte table q + 1) ∙ t.size; counts = λ p h. by p h (eqb q p) refl })
+    -- k counts wherever its test passes
+    tally-turn : 1 ≤ k → {next : State → ℕ} → ((p : State) → p < 256 → next p ≡ (when f p k then n p + 1 else n p)) → Tally f (k + 1) next
+    unfolding when◌then◌else◌
+    tally-turn from {next} e = record { counts = λ p h. by p h (f p k) refl }
       where
-        stored : next ≡ set table q (byte table q + 1)
-        stored = e ∙ put_one table q (byte table q + 1) (omega (arith, tally-room small q hq))
-
-        by : (p : State) → p < 256 → (u : Bool) → eqb q p ≡ u → byte (set table q (byte table q + 1)) p ≡ length (keep (f p) (range 1 (k + 1)))
-        by p h true r =
-            rw (← eqb-true q p r, counted (f q) 1 k from (at q ∙ eq-eqb q q refl), ← t.counts q hq)
-            (get_or-set_same table q (byte table q + 1) 0 (rw t.size hq))
-        by p h false r =
-            get_or-set_other table q p (byte table q + 1) 0 (λ e. eqb-false q p r (sym e))
-            ∙ t.counts p h ∙ sym (passed (f p) 1 k from (at p ∙ r))
-
-    -- k counts nowhere
-    count_none : 1 ≤ k → ((p : State) → f p k ≡ false) → {next : Bytes} → next ≡ table → Tally f (k + 1) next
-    count_none from nowhere e =
-        rw e (record { size = t.size; counts = λ p h. t.counts p h ∙ sym (passed (f p) 1 k from (nowhere p)) })
+        by : (p : State) → p < 256 → (u : Bool) → f p k ≡ u → next p ≡ length (keep (f p) (range 1 (k + 1)))
+        by p h true r = rw (e p h, r, counted (f p) 1 k from r, ← t.counts p h)
+        by p h false r = rw (e p h, r, passed (f p) 1 k from r, ← t.counts p h)
 
 -- the children of p, and the active ones
 abbrev is_child : Chart → State → State → Bool
@@ -117,21 +98,34 @@ is_child c p s = eqb (parent c s) p
 abbrev is_active_child : Image → Chart → State → State → Bool
 is_active_child im c p s = is_child c p s && is_active im s
 
--- both tables at k, on the way from 1 up to e
-pub record Walk (im : Image) (c : Chart) (e k : ℕ) (all active : Bytes) : Type 0 where
+-- one more child of q in the table, read at p
+more-at : (those next : Children) {q : State} (t : Bool) → length those.0 ≡ 256 → q < 256 → next.0 ≡ set those.0 q (one_more t (count_of those q))
+    → (p : State) (u : Bool) → eqb q p ≡ u → count_of next p ≡ (when u then one_more t (count_of those p) else count_of those p)
+unfolding when◌then◌else◌
+more-at those next {q} t size hq put p true r = rw (put, ← eqb-true q p r) (get_or-set_same those.0 q _ _ (rw size hq))
+more-at those next {q} t size hq put p false r = rw put (get_or-set_other those.0 q p _ _ (λ e. eqb-false q p r (sym e)))
+
+-- the table at k, on the way from 1 up to e
+pub record Walk (im : Image) (c : Chart) (e k : ℕ) (those : Children) : Type 0 where
   pub from : 1 ≤ k
   pub up_to : k - 1 ≤ e - 1
-  pub every : Tally (is_child c) k all
-  pub some : Tally (is_active_child im c) k active
+  pub size : length those.0 ≡ 256
+  pub every : Tally (is_child c) k (λ p. (count_of those p).all)
+  pub some : Tally (is_active_child im c) k (λ p. (count_of those p).active)
 
 module _ (im : Image) (c : Chart) (e : ℕ) where
-  pub walk_start : {all active : Bytes} → all ≡ replicate 256 0 → active ≡ replicate 256 0 → Walk im c e 1 all active
-  walk_start a b =
-      record
-      { from = omega arith; up_to = omega arith; every = none-counted (is_child c) a; some = none-counted (is_active_child im c) b }
+  pub walk_start : Walk im c e 1 (record { 0 = replicate 256 (record { all = 0; active = 0 }) })
+  walk_start =
+      record {
+        from = omega arith;
+        up_to = omega arith;
+        size = refl;
+        every = none-counted (is_child c) (λ p h. ap (λ (n : Count). n.all) (get_or-replicate 256 p _ _ h));
+        some = none-counted (is_active_child im c) (λ p h. ap (λ (n : Count). n.active) (get_or-replicate 256 p _ _ h));
+      }
 
-module _ {im : Image} {c : Chart} {e k : ℕ} {all active : Bytes} (w : Walk im c e k all active) where
-  pub walk_end : e ≤ k → e ≡ states c → Counted im c all active
+module _ {im : Image} {c : Chart} {e k : ℕ} {those : Children} (w : Walk im c e k those) where
+  pub walk_end : e ≤ k → e ≡ states c → Counted im c those
   unfolding children range
   walk_end h own =
       record {
@@ -143,28 +137,31 @@ module _ {im : Image} {c : Chart} {e k : ℕ} {all active : Bytes} (w : Walk im 
       whole = let q : k - 1 ≡ states c - 1 = omega (arith, w.up_to, own) in rw q
 
   -- a turn: k counts for its parent q, and among the active ones too if it is active
-  module _ (h : k < e) (small : k < 256) {q : State} (hq : q < 256) (read : q ≡ parent c k) {next : Bytes} (more : next ≡ put 1 all q (byte all q + 1)) (also : Bytes) where
-    active-counted : (t : Bool) → is_active im k ≡ t → also ≡ cond t (put 1 active q (byte active q + 1)) active
-        → Tally (is_active_child im c) (k + 1) also
-    active-counted true on put =
-        count_at (is_active_child im c) w.some q hq w.from small (λ p. rw (on, read) (and-true (eqb (parent c k) p))) put
-    active-counted false off same =
-        count_none (is_active_child im c) w.some w.from (λ p. rw off (and-false (eqb (parent c k) p))) same
+  pub walk_turn : k < e → {q : State} → q < 256 → q ≡ parent c k → (t : Bool) → t ≡ is_active im k → {next : Children}
+      → next.0 ≡ set those.0 q (one_more t (count_of those q)) → Walk im c e (k + 1) next
+  unfolding when◌then◌else◌
+  walk_turn h {q} hq read t is {next} put =
+      record {
+        from = omega arith;
+        up_to = omega (arith, w.from);
+        size = rw put (length-set those.0 q _ ∙ w.size);
+        every = tally-turn (is_child c) w.every w.from (λ p b. all-at p (eqb q p) refl);
+        some = tally-turn (is_active_child im c) w.some w.from (λ p b. active-at p (eqb q p) t refl refl);
+      }
+    where
+      all-at : (p : State) (u : Bool) → eqb q p ≡ u → (count_of next p).all ≡ (when is_child c p k then (count_of those p).all + 1 else (count_of those p).all)
+      all-at p true r = rw (more-at those next t w.size hq put p true r, ← read, r)
+      all-at p false r = rw (more-at those next t w.size hq put p false r, ← read, r)
 
-    pub walk_turn : (t : Bool) → is_active im k ≡ t → also ≡ cond t (put 1 active q (byte active q + 1)) active
-        → Walk im c e (k + 1) next also
-    walk_turn t is same =
-        record {
-          from = omega arith;
-          up_to = omega (arith, w.from);
-          every = count_at (is_child c) w.every q hq w.from small (λ p. rw read) more;
-          some = active-counted t is same;
-        }
+      active-at : (p : State) (u v : Bool) → eqb q p ≡ u → t ≡ v
+          → (count_of next p).active ≡ (when is_active_child im c p k then (count_of those p).active + 1 else (count_of those p).active)
+      active-at p true true r s = rw (more-at those next t w.size hq put p true r, ← read, ← is, r, s)
+      active-at p true false r s = rw (more-at those next t w.size hq put p true r, ← read, ← is, r, s)
+      active-at p false v r s = rw (more-at those next t w.size hq put p false r, ← read, r)
 
--- the test of one state, of what the tables have there
-pub shape-tested : {im : Image} {c : Chart} {all active : Bytes} (t : Counted im c all active) (s : State) → s < 256
-    → {some every wanted : ℕ} → some ≡ byte active s → every ≡ byte all s
-    → wanted ≡ (when is_active im s then (when is_one_of c s then 1 else every) else 0)
-    → shape_at im c s ≡ eqb some wanted
+-- the test of one state, of what the table has there
+pub shape-tested : {im : Image} {c : Chart} {those : Children} (t : Counted im c those) (s : State) → s < 256 → {wanted : ℕ}
+    → wanted ≡ (when is_active im s then (when is_one_of c s then 1 else (count_of those s).all) else 0)
+    → eqb (count_of those s).active wanted ≡ shape_at im c s
 unfolding shape_at
-shape-tested t s h p q r = rw (p, r, q, t.every s h, t.some s h)
+shape-tested t s h e = rw (e, t.some s h, t.every s h)

@@ -1,6 +1,5 @@
 pub mod Bits
 pub mod Tests
-pub mod Sound
 pub mod Zeros
 pub mod Counting
 pub mod Making

@@ -1,28 +1,21 @@
 -- Making the fresh image from the front: zeros, the mark, and then one variable after the other in the place of the zeros that
 -- stand next. Assumes nothing.
-use mathlib.Core.Path.{◌≡◌, ap, ◌∙◌}
-use mathlib.Core.List.{◌++◌, append-nil, append_assoc}
+use mathlib.Core.Path.{◌≡◌, ◌∙◌}
+use mathlib.Core.List.{◌++◌, append_assoc}
 use Prim.Native.Nat.{ℕ, zero, suc, ◌+◌, ◌-◌, ◌*◌, ◌≤◌, ◌<◌}
 use native.Mathlib.Nat.{sub-zero, zero-sub, suc-sub-suc}
 use native.Mathlib.Numerals.{add-one}
 use native.Mathlib.Omega.{arith}
-use lib.ListN.{length, drop, replicate, length-append, length-replicate, drop_of_length-le}
+use lib.ListN.{length, drop, replicate, length-append, length-replicate}
 use lib.Seq.{sets-eq, take-append_seam, drop-append-add}
-use Rattle.rules.specs.Bytes.{Bytes, ascii, field, bytes_of, put}
+use Rattle.rules.specs.Bytes.{Bytes, ascii, bytes_of, put}
 use Rattle.rules.specs.Chart.{Chart, most_variables, variables, initial_value}
-use Rattle.rules.specs.declared.headers.Header.{Header}
 use Rattle.rules.specs.Image.{Image, image_size, initial_bytes, fresh_image}
 use Rattle.rules.proofs.Puts.{length-bytes}
 use Rattle.rules.proofs.Freshness.{initial-length, made}
-use Rattle.chart.specs.Places.{header_of, variable_place}
 
 abbrev pub zeros : ℕ → Bytes
 zeros n = replicate n 0
-
-pub all-zero : (b : Bytes) (i : ℕ) → i ≤ length b → length b ≤ i → zeros i ++ drop i b ≡ zeros (length b)
-all-zero b i h l =
-    let e : i ≡ length b = omega arith in
-    rw (drop_of_length-le b l, append-nil (zeros i), e)
 
 zeros-past : (w m : ℕ) → drop w (zeros m) ≡ zeros (m - w)
 zeros-past zero m = rw (sub-zero m)
@@ -67,13 +60,11 @@ module _ (c : Chart) {image : Image} where
   unfolding made head ascii initial_bytes put bytes_of
   made_none e size marked = marked ∙ rw (e, size)
 
-  module _ (v : ℕ) {h : Header} (own : h ≡ header_of c) (was : image ≡ made c v) where
-    pub made_more : v < most_variables → {n : ℕ} → n ≡ field 4 c (variable_place h v + 2) → {next : Image}
-        → next ≡ put 4 image (74 + 4 * v) n → next ≡ made c (v + 1)
-    made_more l value more = more ∙ rw (was, value, own) (put-more c v l)
+  module _ (v : ℕ) (was : image ≡ made c v) where
+    pub made_more : v < most_variables → {n : ℕ} → n ≡ initial_value c v → {next : Image} → next ≡ put 4 image (74 + 4 * v) n
+        → next ≡ made c (v + 1)
+    made_more l value more = more ∙ rw (was, value) (put-more c v l)
 
-    pub made_all : v ≤ h.variables → h.variables ≤ v → image ≡ fresh_image c
+    pub made_all : v ≡ variables c → image ≡ fresh_image c
     unfolding made head fresh_image
-    made_all l g =
-        let all : v ≡ variables c = omega (arith, ap (λ (x : Header). x.variables) own) in
-        was ∙ rw all
+    made_all all = was ∙ rw all

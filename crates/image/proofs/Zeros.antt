@@ -1,21 +1,22 @@
 -- A test of many numbers as a test of bytes: fields, and whole bytes of bits, are zero exactly where their bytes are, and
 -- bytes past the end are zero. Assumes nothing.
-use mathlib.Core.Path.{◌≡◌, refl, sym, ap, ◌∙◌}
+use mathlib.Core.Path.{◌≡◌, refl, sym, ◌∙◌}
 use mathlib.Core.Bool.{Bool, true, false, ◌&&◌, not, and-true, and_assoc}
 use mathlib.Core.List.{List, [], ◌∷◌, ◌++◌}
-use Prim.Native.Nat.{ℕ, zero, suc, ◌+◌, ◌-◌, ◌*◌, ◌/◌, ◌%◌, ◌^◌, ◌≤◌, ◌<◌}
+use Prim.Native.Nat.{ℕ, zero, suc, ◌+◌, ◌-◌, ◌*◌, ◌/◌, ◌%◌, ◌^◌, ◌≤◌, ◌<◌, min}
 use native.Mathlib.Nat.{zero-add, suc-add, add-zero, mul-zero, mul-suc, add_comm, div-one, div-eq_of_lt, div-div-eq-div-mul, pow-suc}
 use native.Mathlib.Numerals.{add-one}
 use native.Mathlib.Omega.{arith}
-use lib.Dec.{eqb}
+use lib.Dec.{eqb, leb}
 use lib.ListN.{length, take, drop, get_or-eq_default}
-use lib.Seq.{take-suc, drop-cons, take_all}
-use borrow.Author.Tests.{eqb-true, eqb-false, eq-eqb, ne_eqb}
+use lib.Seq.{drop-cons}
+use borrow.Author.Tests.{eqb-true, eqb-false, eq-eqb, ne_eqb, leb-true, leb-false}
 use Rattle.rules.specs.Bytes.{Bytes, byte, field}
 use Rattle.rules.specs.Lists.{up_from, range, every}
 use Rattle.rules.specs.Accept.{zero_at}
 use Rattle.rules.specs.Chart.{most_states, most_variables}
 use Rattle.rules.specs.Image.{Image, is_active, recorded}
+use Rattle.chart.proofs.Ranges.{every-end}
 
 -- a range in two parts
 up-add : (a m n : ℕ) → up_from a (m + n) ≡ up_from a m ++ up_from (a + m) n
@@ -72,21 +73,9 @@ module _ (w : ℕ) (f g : ℕ → Bool) (start : ℕ → ℕ) (next : (p : ℕ) 
 abbrev pub is_zero : ℕ → Bool
 is_zero b = eqb b 0
 
-module _ (part : Bytes) {zero : Bool} where
-  pub one-tested : (i : ℕ) → i < length part → zero ≡ every is_zero (take i part)
-      → zero && is_zero (byte part i) ≡ every is_zero (take (i + 1) part)
-  unfolding every
-  one-tested i h e =
-      rw (
-        add-one i,
-        take-suc part i 0 h,
-        every_append is_zero (take i part) (byte part i ∷ []),
-        e,
-        and-true (is_zero (byte part i)),
-      )
-
-  pub all_tested : (i : ℕ) → length part ≤ i → zero ≡ every is_zero (take i part) → zero ≡ every is_zero part
-  all_tested i l e = e ∙ ap (every is_zero) (take_all i part l)
+pub one-more : (bytes : Bytes) (b : ℕ) {zero : Bool} → zero ≡ every is_zero bytes → zero && is_zero b ≡ every is_zero (bytes ++ (b ∷ []))
+unfolding every
+one-more bytes b e = rw (every_append is_zero bytes (b ∷ []), e, and-true (is_zero b))
 
 -- the bytes of an image from a place up to another
 module _ (im : Image) where
@@ -95,9 +84,16 @@ module _ (im : Image) where
   past a zero h = refl
   past a (suc n) h = rw (get_or-eq_default im 0 h) (past (a + 1) n (omega arith))
 
-  pub past_end : (a e : ℕ) → length im ≤ a → every (zero_at im) (range a e) ≡ true
+  past_end : (a e : ℕ) → length im ≤ a → every (zero_at im) (range a e) ≡ true
   unfolding range
   past_end a e h = past a (e - a) h
+
+  pub beyond : (a to : ℕ) → min to (length im) ≤ a → every (zero_at im) (range a to) ≡ true
+  beyond a to h = by (leb to a) refl
+    where
+      by : (t : Bool) → leb to a ≡ t → every (zero_at im) (range a to) ≡ true
+      by true p = every-end (zero_at im) a to (leb-true to a p)
+      by false p = past_end a to (omega (arith, leb-false to a p))
 
   part-tested : (a n : ℕ) → a + n ≤ length im → every is_zero (take n (drop a im)) ≡ every (zero_at im) (up_from a n)
   unfolding up_from every zero_at
@@ -105,10 +101,10 @@ module _ (im : Image) where
   part-tested a (suc n) h =
       rw (drop-cons im a 0 (omega arith), ← add-one a, part-tested (a + 1) n (omega arith))
 
-  pub up-to-end : (a e to : ℕ) {zero : Bool} → a ≤ e → e ≤ length im → e ≤ to → every (zero_at im) (range e to) ≡ true
-      → zero ≡ every is_zero (take (e - a) (drop a im)) → zero ≡ every (zero_at im) (range a to)
+  pub up-to-end : (a e to : ℕ) {zero : Bool} → e ≡ min to (length im) → a < e → zero ≡ every is_zero (take (e - a) (drop a im))
+      → zero ≡ every (zero_at im) (range a to)
   unfolding range
-  up-to-end a e to h l t rest z =
+  up-to-end a e to end h z =
       let n : to - a ≡ (e - a) + (to - e) = omega arith in
       let m : a + (e - a) ≡ e = omega arith in
       rw (
@@ -118,7 +114,7 @@ module _ (im : Image) where
         up-add a (e - a) (to - e),
         m,
         every_append (zero_at im) (up_from a (e - a)) (up_from e (to - e)),
-        rest,
+        beyond e to (omega arith),
       )
       (sym (and-true (every (zero_at im) (up_from a (e - a)))))
 

@@ -2,6 +2,7 @@
 ghost use Rattle.std.specs.Prelude.{◌≡◌, ◌+◌, ◌/◌};
 ghost use Rattle.rules.specs.Image as rules;
 
+use fields::Field;
 use rules::images::Image;
 use rules::numbers::StateNo;
 
@@ -14,27 +15,27 @@ fn place(s: StateNo) -> usize
 pub fn is_active(image: &[u8], s: StateNo) -> bool
     ensures { result ≡ rules.is_active image.now s.0 }
 {
-    let byte = fields::u8_at(image, place(s));
+    let byte = u8::at(image, place(s));
     (byte >> (s.0 % 8)) % 2 == 1
 }
 
 pub fn activate(image: &mut [u8], s: StateNo)
     ensures { image.new ≡ rules.activate image.old s.0 }
 {
-    let byte = fields::u8_at(image, place(s));
+    let byte = u8::at(image, place(s));
     let k = s.0 % 8;
     if (byte >> k) % 2 != 1 {
-        fields::put_u8(image, place(s), byte + (1u8 << k));
+        (byte + (1u8 << k)).put(image, place(s));
     }
 }
 
 pub fn deactivate(image: &mut [u8], s: StateNo)
     ensures { image.new ≡ rules.deactivate image.old s.0 }
 {
-    let byte = fields::u8_at(image, place(s));
+    let byte = u8::at(image, place(s));
     let k = s.0 % 8;
     if (byte >> k) % 2 == 1 {
-        fields::put_u8(image, place(s), byte - (1u8 << k));
+        (byte - (1u8 << k)).put(image, place(s));
     }
 }
 
@@ -42,10 +43,5 @@ pub fn deactivate(image: &mut [u8], s: StateNo)
 pub fn not_started(image: &[u8]) -> bool
     ensures { result ≡ rules.not_started image.now }
 {
-    for i in Image::ACTIVE..Image::VARIABLES {
-        if fields::u8_at(image, i) != 0 {
-            return false;
-        }
-    }
-    true
+    (Image::ACTIVE..Image::VARIABLES).all(|i| u8::at(image, i) == 0)
 }

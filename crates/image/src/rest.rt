@@ -7,6 +7,7 @@ ghost use Rattle.rules.specs.Chart.{Chart, most_states, most_variables};
 ghost use Rattle.rules.specs.Image as rules;
 ghost use Rattle.chart.specs.Places.{header_of};
 
+use fields::Field;
 use rules::headers::Header;
 use rules::images::Image;
 
@@ -14,24 +15,15 @@ use rules::images::Image;
 fn zeros(part: &[u8]) -> bool
     ensures { result ≡ every (λ b. eqb b 0) part.now }
 {
-    let mut zero = true;
-    for i in 0..part.len() {
-        zero = zero & (part[i] == 0);
-    }
-    zero
+    part.iter().fold(true, |zero, b| zero & (*b == 0))
 }
 
 // Whether the bytes from a place up to another are zero; those past the end are.
 fn zeros_between(image: &[u8], from: usize, to: usize) -> bool
     ensures { result ≡ every (zero_at image.now) (range from to) }
 {
-    let length = image.len();
-    let end = if to < length { to } else { length };
-    if from < end {
-        zeros(&image[from..end])
-    } else {
-        true
-    }
+    let end = to.min(image.len());
+    end <= from || zeros(&image[from..end])
 }
 
 // Whether the states from a number on are inactive: the rest of one byte of bits, then whole bytes.
@@ -42,24 +34,29 @@ fn inactive(image: &[u8], from: u8) -> bool
         return true;
     }
     let place = Image::ACTIVE + from as usize / 8;
-    let rest = fields::u8_at(image, place) >> (from % 8);
-    (rest == 0) & zeros_between(image, place + 1, Image::HISTORY)
+    let rest = u8::at(image, place) >> (from % 8);
+    rest == 0 && zeros_between(image, place + 1, Image::HISTORY)
 }
 
 fn states_zero(image: &[u8], from: u8) -> bool
     ensures { result ≡ every (λ s. not (rules.is_active image.now s) && eqb (rules.recorded image.now s) 0) (range from most_states) }
 {
-    inactive(image, from) & zeros_between(image, Image::HISTORY + from as usize, Image::VARIABLES)
+    inactive(image, from) && zeros_between(image, Image::HISTORY + from as usize, Image::VARIABLES)
 }
 
 fn variables_zero(image: &[u8], from: u8) -> bool
     ensures { result ≡ every (λ v. eqb (field 4 image.now (74 + 4 * v)) 0) (range from most_variables) }
 {
-    zeros_between(image, Image::VARIABLES + 4 * (from as usize), Image::SIZE)
+    zeros_between(
+        image,
+        Image::VARIABLES + Image::VALUE * (from as usize),
+        Image::SIZE,
+    )
 }
 
+// For every chart with that header.
 pub fn is_zero(image: &[u8], h: Header) -> bool
     ensures { (c : Chart) → h ≡ header_of c → result ≡ rules.rest_zero image.now c }
 {
-    states_zero(image, h.states) & variables_zero(image, h.variables)
+    states_zero(image, h.states) && variables_zero(image, h.variables)
 }

@@ -3,72 +3,58 @@
 #![tactic(auto)]
 
 use blocks::action;
+use chart::Chart;
 use chart::blocks::Block;
-use chart::headers;
-use doing::{Counts, Done};
+use chart::instructions::Instruction;
+use chart::ops::Op;
+use doing::{Counts, Now};
 use image::variables;
+use rules::headers::Header;
 use rules::images::Image;
+use rules::refusals::Refusal;
 use std::io;
 
-const ROUNDS: u32 = 100000;
+const ROUNDS: u32 = 100_000;
 
 const COUNT: u8 = 255;
 
+const INSTRUCTION: usize = Instruction::SIZE as usize;
+
 // A header with no tables before the instructions, and the instructions.
-const LENGTH: usize = 1542;
+const LENGTH: usize = Header::SIZE + COUNT as usize * INSTRUCTION;
 
-// The j-th instruction of the k-th seventeen.
-fn instruction(chart: &mut [u8], k: u8, j: u8, op: u8, a: u8, b: i16) {
-    let first = 12 + 102 * (k as usize) + 6 * (j as usize);
-    fields::put_u8(chart, first + 2, op);
-    fields::put_u8(chart, first + 3, a);
-    fields::put_i16(chart, first + 4, b);
-}
+// x = (x + 3) % 997; z = not (x < y); y = x * 2 / 5
+const SEVENTEEN: [(Op, u8, i16); 17] = [
+    (Op::Load, 0, 0),
+    (Op::Push, 0, 3),
+    (Op::Add, 0, 0),
+    (Op::Push, 0, 997),
+    (Op::Remainder, 0, 0),
+    (Op::Store, 0, 0),
+    (Op::Load, 0, 0),
+    (Op::Load, 1, 0),
+    (Op::Less, 0, 0),
+    (Op::Not, 0, 0),
+    (Op::Store, 2, 0),
+    (Op::Load, 0, 0),
+    (Op::Push, 0, 2),
+    (Op::Multiply, 0, 0),
+    (Op::Push, 0, 5),
+    (Op::Quotient, 0, 0),
+    (Op::Store, 1, 0),
+];
 
-// x = (x + 3) % 997
-fn count_up(chart: &mut [u8], k: u8) {
-    instruction(chart, k, 0, 1, 0, 0);
-    instruction(chart, k, 1, 0, 0, 3);
-    instruction(chart, k, 2, 3, 0, 0);
-    instruction(chart, k, 3, 0, 0, 997);
-    instruction(chart, k, 4, 7, 0, 0);
-    instruction(chart, k, 5, 2, 0, 0);
-}
-
-// z = not (x < y)
-fn compare(chart: &mut [u8], k: u8) {
-    instruction(chart, k, 6, 1, 0, 0);
-    instruction(chart, k, 7, 1, 1, 0);
-    instruction(chart, k, 8, 8, 0, 0);
-    instruction(chart, k, 9, 10, 0, 0);
-    instruction(chart, k, 10, 2, 2, 0);
-}
-
-// y = x * 2 / 5
-fn scale(chart: &mut [u8], k: u8) {
-    instruction(chart, k, 11, 1, 0, 0);
-    instruction(chart, k, 12, 0, 0, 2);
-    instruction(chart, k, 13, 5, 0, 0);
-    instruction(chart, k, 14, 0, 0, 5);
-    instruction(chart, k, 15, 6, 0, 0);
-    instruction(chart, k, 16, 2, 1, 0);
-}
-
-fn seventeen(chart: &mut [u8], k: u8) {
-    count_up(chart, k);
-    compare(chart, k);
-    scale(chart, k);
-}
-
-fn build(chart: &mut [u8]) {
-    for k in 0..15 {
-        seventeen(chart, k);
+fn build(chart: &mut [u8; LENGTH]) {
+    let records = chart[Header::SIZE..].chunks_exact_mut(INSTRUCTION);
+    for (i, record) in records.enumerate() {
+        let (op, a, b) = SEVENTEEN[i % 17];
+        record[2] = op as u8;
+        record[3] = a;
+        record[4..6].copy_from_slice(&b.to_le_bytes());
     }
 }
 
-fn once(chart: &[u8], image: &mut [u8]) -> u32 {
-    let mut trace = [0u32; 1];
-    let h = headers::read(chart);
+fn once(chart: &Chart, image: &mut [u8]) -> Result<(), Refusal> {
     let block = Block {
         start: 0,
         count: COUNT,
@@ -77,33 +63,28 @@ fn once(chart: &[u8], image: &mut [u8]) -> u32 {
         units: COUNT as u32,
         items: 0,
     };
-    let done = action::perform(chart, h, block, image, &mut trace, counts);
-    match done {
-        Done::Refused(_) => 0,
-        Done::Went(_) => 1,
-    }
+    let mut trace = [0u32; 1];
+    action::perform(chart, block, &mut Now::new(image, &mut trace, counts))
 }
 
 // How many rounds went well: all, or none.
-fn again(chart: &[u8], image: &mut [u8]) -> u32 {
+fn again(chart: &Chart, image: &mut [u8]) -> u32 {
     for _ in 0..ROUNDS {
-        if once(chart, image) != 1 {
+        if once(chart, image).is_err() {
             return 0;
         }
     }
     ROUNDS
 }
 
-fn number(rt: &impl Print, n: u32) -> io::Result<()> {
-    rt.println(n)
-}
-
 fn main(rt: HostRuntime) -> io::Result<()> {
-    let mut chart = [0u8; LENGTH];
-    build(&mut chart);
+    let mut code = [0u8; LENGTH];
+    build(&mut code);
     let mut image = [0u8; Image::SIZE];
-    number(&rt, again(&chart, &mut image))?;
-    number(&rt, variables::number(&image, 0))?;
-    number(&rt, variables::number(&image, 1))?;
-    number(&rt, variables::number(&image, 2))
+    let rounds = again(&Chart::read(&code), &mut image);
+    println!(rt; "{rounds}")?;
+    for v in 0..3 {
+        println!(rt; "{}", variables::number(&image, v))?;
+    }
+    Ok(())
 }

@@ -1,5 +1,5 @@
--- Leaving, as the code goes: what a history parent records; leaving as paying, the children, and the rest; and the children
--- of a state below a number, the highest first, of which one that is not active is done with at once. Assumes nothing.
+-- Leaving, as the code goes: as paying, the children, and the rest; and the children of a state below a number, the highest
+-- first, of which one that is not active is done with at once. Assumes nothing.
 use mathlib.Core.Path.{◌≡◌, refl}
 use mathlib.Core.Bool.{Bool, true, false, ◌&&◌}
 use mathlib.Core.List.{List, [], ◌∷◌}
@@ -7,24 +7,15 @@ use Prim.Native.Nat.{ℕ, zero, suc, ◌-◌, ◌≤◌, ◌<◌}
 use native.Mathlib.Omega.{arith}
 use lib.Dec.{eqb}
 use Rattle.rules.specs.Lists.{when◌then◌else◌, down_from, keep}
-use Rattle.rules.specs.Chart.{Chart, State, parent, keeps_history, children_down}
+use Rattle.rules.specs.Chart.{Chart, State, parent, children_down}
 use Rattle.rules.specs.Image.{is_active}
-use Rattle.rules.specs.Doing.{Now, Outcome, Done, done, give, ◌>>◌, change, pay, each, when_active}
-use Rattle.rules.specs.Fire.{leave_each, parent_records, leave}
+use Rattle.rules.specs.Doing.{Now, Outcome, Done, done, give, ◌>>◌, pay, each, when_active}
+use Rattle.rules.specs.Fire.{leave_each, leave}
 use Rattle.rules.specs.declared.headers.Header.{Header}
 use Rattle.chart.specs.Places.{header_of}
 use Rattle.doing.proofs.Laws.{each-went}
-use Rattle.moves.specs.Steps.{remembered, departing}
+use Rattle.moves.specs.Steps.{departing}
 use Rattle.moves.proofs.Follows.{less_one}
-
--- a history parent records s or not: the image is the one remembered
-pub noted-left : (c : Chart) (s : State) (n : Now) → parent_records c s n ≡ change (remembered c s) n
-unfolding parent_records remembered when◌then◌else◌ change done give
-noted-left c s n = by (keeps_history c (parent c s)) refl
-  where
-    by : (t : Bool) → keeps_history c (parent c s) ≡ t → parent_records c s n ≡ change (remembered c s) n
-    by true e = rw e
-    by false e = rw e
 
 -- leaving is paying, then leaving the children, then the rest
 pub leave-some : (c : Chart) (d : ℕ) (s : State) (n : Now) → (d ≡ 0 → ⊥)
@@ -67,9 +58,12 @@ module _ (c : Chart) (s k : State) where
     a-child e = rw (highest, e)
 
     -- no child, or one that is not active
-    pub passed_over : (f : State → Done) (n : Now) (t : Bool)
-        → eqb (parent c (k - 1)) s ≡ t → t && is_active n.image (k - 1) ≡ false
+    pub passed_over : (f : State → Done) (n : Now) → eqb (parent c (k - 1)) s && is_active n.image (k - 1) ≡ false
         → each (λ i. when_active i (f i)) (children_below c s k) n ≡ each (λ i. when_active i (f i)) (children_below c s (k - 1)) n
     unfolding keep when_active when◌then◌else◌ done give
-    passed_over f n true p e = rw (highest, p) (each-went _ (k - 1) _ n (rw e))
-    passed_over f n false p e = rw (highest, p)
+    passed_over f n none = by (eqb (parent c (k - 1)) s) refl none
+      where
+        by : (t : Bool) → eqb (parent c (k - 1)) s ≡ t → t && is_active n.image (k - 1) ≡ false
+            → each (λ i. when_active i (f i)) (children_below c s k) n ≡ each (λ i. when_active i (f i)) (children_below c s (k - 1)) n
+        by true p e = rw (highest, p) (each-went _ (k - 1) _ n (rw e))
+        by false p e = rw (highest, p)

@@ -1,86 +1,103 @@
--- The lowest state above a source, a target and a path's junctions, as the code finds it: the lineage of a state, written place
--- by place; the junctions of a path, tested end by end; and the places of the lineage, looked through one by one. Assumes nothing.
-use mathlib.Core.Path.{◌≡◌, refl, sym, ap, ◌∙◌}
-use mathlib.Core.Bool.{Bool, true, false, ◌&&◌}
-use mathlib.Core.List.{List, [], ◌∷◌, ◌++◌}
-use Prim.Native.Nat.{ℕ, zero, suc, ◌+◌, ◌-◌, ◌≤◌, ◌<◌}
+-- The lowest state above a source, a target and a path's junctions, as the code finds it: up from the source, where each state
+-- is tested end by end of the path. Assumes nothing.
+use mathlib.Core.Path.{◌≡◌, refl, sym}
+use mathlib.Core.Bool.{Bool, true, false, ◌||◌}
+use mathlib.Core.List.{List, [], ◌∷◌}
+use Prim.Native.Nat.{ℕ, zero, suc, ◌-◌, ◌<◌}
 use native.Mathlib.Omega.{arith}
-use native.Mathlib.Numerals.{add-one}
-use lib.ListN.{length, take, drop, get_or, set, drop_of_length-le}
-use lib.Seq.{take-suc-set, append_snoc, length-take-le, get_or-take}
-use borrow.Author.Tests.{eq-eqb, ne_eqb}
+use lib.Dec.{eqb}
+use borrow.Author.Tests.{eqb-true}
+use Rattle.std.specs.List.{list_all}
 use Rattle.rules.specs.Lists.{when◌then◌else◌, every, keep, first}
-use Rattle.rules.specs.Chart.{Chart, State, Segment, deepest, parent, ends_on_state, lineage, over}
-use Rattle.rules.specs.Fire.{junction_parents, common}
-use Rattle.moves.specs.Steps.{over_end}
-use Rattle.moves.proofs.Follows.{less_one, next-at}
+use Rattle.rules.specs.Chart.{Chart, State, Segment, deepest, parent, junction_parent, destination_kind, destination, ends_on_state, lineage, over}
+use Rattle.rules.specs.Fire.{junction_parents, common, levels}
+use Rattle.rules.specs.declared.numbers.StateNo.{StateNo}
+use Rattle.rules.specs.declared.numbers.JunctionNo.{JunctionNo}
+use Rattle.chart.specs.declared.segments.End.TheVariants.{State as ToState, Junction as ToJunction}
+use Rattle.chart.specs.Read.{end_named}
+use Rattle.moves.specs.Steps.{over_end, over_all}
+use Rattle.moves.proofs.Follows.{less_one}
 
--- a lineage by its lowest state: the root, another, the last that may be
-module _ (c : Chart) (at : State) where
-  lineage-of-root : (left : ℕ) → at ≡ 0 → lineage c left at ≡ at ∷ []
-  unfolding lineage when◌then◌else◌
-  lineage-of-root zero q = refl
-  lineage-of-root (suc n) q = rw (eq-eqb at 0 q)
+-- where a segment ends, as the code reads it
+module _ (c : Chart) (a : State) (t : Segment) where
+  pub on-state : {s : StateNo} → end_named (destination_kind c t) (destination c t) ≡ ToState s → true ≡ over_end c a t
+  unfolding over_end when◌then◌else◌
+  on-state e = by (ends_on_state c t) refl
+    where
+      by : (k : Bool) → ends_on_state c t ≡ k → true ≡ over_end c a t
+      by true p = rw p
+      by false p = let f = rw p at e in absurd (cc)
 
-  lineage-of-child : (left : ℕ) → 0 < left → (at ≡ 0 → ⊥) → lineage c left at ≡ at ∷ lineage c (left - 1) (parent c at)
-  unfolding lineage when◌then◌else◌
-  lineage-of-child zero h d = absurd (omega arith)
-  lineage-of-child (suc n) h d = rw (ne_eqb at 0 d, less_one)
-
-  lineage-of-last : (left : ℕ) → left ≡ 0 → lineage c left at ≡ at ∷ []
-  unfolding lineage
-  lineage-of-last left q = rw q
-
--- the first n places are written, and at is to be written next
-module _ (c : Chart) (at : State) (top n : ℕ) (places : List ℕ) {whole : List State} (space : n < length places)
-    (still : take n places ++ lineage c (top - n) at ≡ whole) where
-  written : take (n + 1) (set places n at) ≡ take n places ++ (at ∷ [])
-  written = rw (add-one n, take-suc-set places n at space)
-
-  all-written : lineage c (top - n) at ≡ at ∷ [] → take (n + 1) (set places n at) ≡ whole
-  all-written e = written ∙ ap (λ l. take n places ++ l) (sym e) ∙ still
-
-  pub root-written : at ≡ 0 → take (n + 1) (set places n at) ≡ whole
-  root-written q = all-written (lineage-of-root c at (top - n) q)
-
-  pub last_written : top ≤ n → take (n + 1) (set places n at) ≡ whole
-  last_written h = all-written (lineage-of-last c at (top - n) (omega arith))
-
-  pub one_written : {next : State} → n < top → (at ≡ 0 → ⊥) → next ≡ parent c at
-      → take (n + 1) (set places n at) ++ lineage c (top - (n + 1)) next ≡ whole
-  one_written h d q =
-      let less : top - (n + 1) ≡ top - n - 1 = omega arith in
-      rw (written, less, q, append_snoc, ← lineage-of-child c at (top - n) (omega arith) d) still
+  pub on-junction : {j : JunctionNo} → end_named (destination_kind c t) (destination c t) ≡ ToJunction j
+      → {p : State} → p ≡ junction_parent c j.0 → {answer : Bool} → answer ≡ over c a p → answer ≡ over_end c a t
+  unfolding over_end when◌then◌else◌
+  on-junction {j} e {p} q {answer} told = by (ends_on_state c t) refl
+    where
+      by : (k : Bool) → ends_on_state c t ≡ k → answer ≡ over_end c a t
+      by true k = let f = rw k at e in absurd (cc)
+      by false k = let f = rw k at e in let g : destination c t ≡ j.0 = cc in rw (k, g, ← q) told
 
 -- whether a is over each junction of a path: end by end
 module _ (c : Chart) (a : State) where
   one_end : (t : Segment) (ts : List Segment) (on-state : Bool) → ends_on_state c t ≡ on-state
-      → every (over c a) (junction_parents c ts) ≡ every (over_end c a) ts
-      → every (over c a) (junction_parents c (t ∷ ts)) ≡ every (over_end c a) (t ∷ ts)
+      → every (over c a) (junction_parents c ts) ≡ list_all (over_end c a) ts
+      → every (over c a) (junction_parents c (t ∷ ts)) ≡ list_all (over_end c a) (t ∷ ts)
   unfolding over_end junction_parents keep every when◌then◌else◌
   one_end t ts true p e = rw p e
   one_end t ts false p e = rw (p, e)
 
-  pub end-by-end : (path : List Segment) → every (over c a) (junction_parents c path) ≡ every (over_end c a) path
+  pub end-by-end : (path : List Segment) → every (over c a) (junction_parents c path) ≡ list_all (over_end c a) path
   unfolding every keep junction_parents
   end-by-end [] = refl
   end-by-end (t ∷ ts) = one_end t ts (ends_on_state c t) refl (end-by-end ts)
 
--- looking for the lowest up the source's lineage, which stands in the first n of the places above
-abbrev pub over_all : Chart → State → List Segment → State → Bool
-over_all c target path s = over c s target && every (over c s) (junction_parents c path)
+-- of n states up from s the first that is the root, or passes f
+unfoldable pub climbed : Chart → (State → Bool) → ℕ → State → State
+climbed c f zero s = 0
+climbed c f (suc n) s = when eqb s 0 || f s then s else climbed c f n (parent c s)
 
-pub common-of : (c : Chart) (source target : State) (path : List Segment) {above : List State} → above ≡ lineage c deepest source
-    → common c source target path ≡ first (over_all c target path) above
-unfolding common
-common-of c source target path e = rw e
+module _ (c : Chart) (f : State → Bool) where
+  -- it is the first of a lineage that passes: where none does, the root's number is the rules' for none
+  top : (s : State) (root passes : Bool) → eqb s 0 ≡ root → f s ≡ passes → first f (lineage c 0 s) ≡ climbed c f 1 s
+  unfolding first lineage climbed when◌then◌else◌
+  top s true true r p = rw (r, p)
+  top s true false r p = rw (r, p) (sym (eqb-true s 0 r))
+  top s false true r p = rw (r, p)
+  top s false false r p = rw (r, p)
 
-module _ (above : List State) (n i : ℕ) (fits : n ≤ length above) where
-  ends_at : length (take n above) ≡ n
-  ends_at = length-take-le n above fits
+  below-top : (n : ℕ) (s : State) (root passes : Bool) → eqb s 0 ≡ root → f s ≡ passes
+      → first f (lineage c n (parent c s)) ≡ climbed c f (suc n) (parent c s)
+      → first f (lineage c (suc n) s) ≡ climbed c f (suc (suc n)) s
+  unfolding first lineage climbed when◌then◌else◌
+  below-top n s true true r p up = rw (r, p)
+  below-top n s true false r p up = rw (r, p) (sym (eqb-true s 0 r))
+  below-top n s false true r p up = rw (r, p)
+  below-top n s false false r p up = rw (r, p) up
 
-  pub next-above : i < n → drop i (take n above) ≡ get_or above i 0 ∷ drop (i + 1) (take n above)
-  next-above more = rw (← get_or-take n above i 0 more) (next-at (take n above) i (rw ends_at more))
+  pub first-climbed : (n : ℕ) (s : State) → first f (lineage c n s) ≡ climbed c f (suc n) s
+  first-climbed zero s = top s (eqb s 0) (f s) refl refl
+  first-climbed (suc n) s = below-top n s (eqb s 0) (f s) refl refl (first-climbed n (parent c s))
 
-  pub none_above : n ≤ i → drop i (take n above) ≡ []
-  none_above h = drop_of_length-le (take n above) {i = i} (rw ends_at h)
+  one-up : (left : ℕ) (at : State) → 0 < left → climbed c f left at ≡ (when eqb at 0 || f at then at else climbed c f (left - 1) (parent c at))
+  unfolding climbed
+  one-up zero at h = absurd (omega arith)
+  one-up (suc n) at h = rw less_one
+
+  module _ (left : ℕ) (at : State) {was : State} (still : was ≡ climbed c f left at) where
+    pub climbed-all : left ≡ 0 → 0 ≡ was
+    unfolding climbed
+    climbed-all e = rw (still, e)
+
+    module _ (more : 0 < left) where
+      pub climbed-here : eqb at 0 || f at ≡ true → at ≡ was
+      unfolding when◌then◌else◌
+      climbed-here p = rw (still, one-up left at more, p)
+
+      pub climbed-on : eqb at 0 || f at ≡ false → {next : State} → next ≡ parent c at → was ≡ climbed c f (left - 1) next
+      unfolding when◌then◌else◌
+      climbed-on p q = rw (still, one-up left at more, p, q)
+
+pub common-climbed : (c : Chart) (source target : State) (path : List Segment)
+    → common c source target path ≡ climbed c (over_all c target path) levels source
+unfolding common over_all
+common-climbed c source target path = first-climbed c (over_all c target path) deepest source

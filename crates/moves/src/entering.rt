@@ -1,129 +1,87 @@
 // Entering: active, the entry action, then the children.
 ghost use Rattle.std.specs.Prelude.{◌≡◌};
 ghost use Rattle.rules.specs.Fire as rules;
-ghost use Rattle.chart.specs.Places.{header_of};
-ghost use Rattle.doing.specs.Held.{now_of, outcome_of};
-ghost use Rattle.moves.specs.Steps.{arriving, chosen_child};
+ghost use Rattle.doing.specs.Outcomes.{outcome_of};
+ghost use Rattle.moves.specs.Steps.{named, arriving, chosen_child};
 
 use blocks::action;
-use chart::{states, tree};
-use doing::{Counts, Done};
-use image::{active, history};
-use rules::headers::Header;
+use chart::Chart;
+use doing::Now;
 use rules::items::Item;
 use rules::numbers::StateNo;
+use rules::refusals::Refusal;
 
-// The child of s on the way to the target; 0 if there is none.
-fn on_the_way(chart: &[u8], h: Header, s: StateNo, target: StateNo) -> StateNo
-    requires { h ≡ header_of chart.now }
-    ensures { result.0 ≡ rules.on_the_way chart.now s.0 target.0 }
+// The child of s on the way to the target.
+fn on_the_way(chart: &Chart, s: StateNo, target: StateNo) -> Option<StateNo>
+    ensures { result ≡ named (rules.on_the_way chart.now s.0 target.0) }
 {
-    for n in 1..h.states {
-        let k = StateNo(n);
-        if states::parent(chart, k).0 == s.0 {
-            if tree::over(chart, k, target) {
-                return k;
-            }
-        }
-    }
-    StateNo(0)
+    (1..chart.header().states)
+        .map(|n| StateNo(n))
+        .find(|k| chart.parent(*k) == s && chart.over(*k, target))
 }
 
-// Of a one-of state: the child on the way, else the recorded one, else initial.
-fn chosen(chart: &[u8], h: Header, image: &[u8], s: StateNo, target: StateNo) -> StateNo
-    requires { h ≡ header_of chart.now }
-    ensures { result.0 ≡ chosen_child chart.now s.0 target.0 image.now }
+// Of a one-of state: the child on the way, else the recorded one, which is 0 in the image where there is none, else initial.
+fn chosen(chart: &Chart, now: &Now, s: StateNo, target: StateNo) -> StateNo
+    ensures { result.0 ≡ chosen_child chart.now s.0 target.0 now.now.image }
 {
-    let aimed = on_the_way(chart, h, s, target);
-    if aimed.0 != 0 {
+    if let Some(aimed) = on_the_way(chart, s, target) {
         return aimed;
     }
-    let recorded = history::recorded(image, s);
+    let recorded = now.recorded(s);
     if recorded.0 != 0 {
         return recorded;
     }
-    states::initial(chart, s)
+    chart.initial(s)
 }
 
 // What comes before its children are entered.
-fn arrive(
-    chart: &[u8],
-    h: Header,
-    image: &mut [u8],
-    trace: &mut [u32],
-    counts: Counts,
-    s: StateNo,
-) -> Done
-    requires { h ≡ header_of chart.now }
-    ensures { outcome_of result image.new trace.new ≡ arriving chart.now s.0 (now_of image.old trace.old counts) }
+fn arrive(chart: &Chart, now: &mut Now, s: StateNo) -> Result<(), Refusal>
+    ensures { outcome_of result now.new ≡ arriving chart.now s.0 now.old }
 {
-    let paid = doing::pay(counts);
-    let Done::Went(left) = paid else {
-        return paid;
-    };
-    active::activate(image, s);
-    let noted = doing::note(trace, left, Item::entered(s));
-    let Done::Went(after) = noted else {
-        return noted;
-    };
-    action::perform(chart, h, states::entry(chart, s), image, trace, after)
+    now.pay()?;
+    now.activate(s);
+    now.note(Item::Entered(s))?;
+    action::perform(chart, chart.entry(s), now)
 }
 
 // A state is entered: depth is how many levels it can have, itself and those below.
 #[cycle(enter_enter_children)]
 pub fn enter(
-    chart: &[u8],
-    h: Header,
-    image: &mut [u8],
-    trace: &mut [u32],
-    counts: Counts,
+    chart: &Chart,
+    now: &mut Now,
     depth: u8,
     target: StateNo,
     s: StateNo,
-) -> Done
-    requires { h ≡ header_of chart.now }
-    ensures { outcome_of result image.new trace.new ≡ rules.enter chart.now depth target.0 s.0 (now_of image.old trace.old counts) }
+) -> Result<(), Refusal>
+    ensures { outcome_of result now.new ≡ rules.enter chart.now depth target.0 s.0 now.old }
 {
     if depth == 0 {
-        return Done::Went(counts);
+        return Ok(());
     }
-    let arrived = arrive(chart, h, image, trace, counts, s);
-    let Done::Went(left) = arrived else {
-        return arrived;
-    };
-    enter_children(chart, h, image, trace, left, depth - 1, target, s)
+    arrive(chart, now, s)?;
+    enter_children(chart, now, depth - 1, target, s)
 }
 
 // Of an all-of state each child in ascending number, of a one-of state the chosen one: depth is how many levels each can have.
 #[cycle(enter_enter_children)]
 pub fn enter_children(
-    chart: &[u8],
-    h: Header,
-    image: &mut [u8],
-    trace: &mut [u32],
-    counts: Counts,
+    chart: &Chart,
+    now: &mut Now,
     depth: u8,
     target: StateNo,
     s: StateNo,
-) -> Done
-    requires { h ≡ header_of chart.now }
-    ensures { outcome_of result image.new trace.new ≡ rules.enter_each chart.now (rules.enter chart.now depth target.0) target.0 s.0 (now_of image.old trace.old counts) }
+) -> Result<(), Refusal>
+    ensures { outcome_of result now.new ≡ rules.enter_each chart.now (rules.enter chart.now depth target.0) target.0 s.0 now.old }
 {
-    if states::is_one_of(chart, s) {
-        let k = chosen(chart, h, image, s, target);
-        return enter(chart, h, image, trace, counts, depth, target, k);
+    if chart.is_one_of(s) {
+        let k = chosen(chart, now, s, target);
+        return enter(chart, now, depth, target, k);
     }
-    let mut left = counts;
-    let mut k = 1;
-    while k < h.states {
-        if states::parent(chart, StateNo(k)).0 == s.0 {
-            let entered = enter(chart, h, image, trace, left, depth, target, StateNo(k));
-            let Done::Went(after) = entered else {
-                return entered;
-            };
-            left = after;
+    for n in 1..chart.header().states {
+        let k = StateNo(n);
+        if chart.parent(k) == s {
+            enter(chart, now, depth, target, k)?;
         }
-        k += 1;
     }
-    Done::Went(left)
+    Ok(())
 }

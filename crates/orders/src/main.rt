@@ -6,163 +6,95 @@
 mod building; // the chart
 mod telling; // what is printed
 
-use chart::headers;
-use doing::{Counts, Done};
+use chart::Chart;
+use doing::{Counts, Now};
 use moves::{entering, firing, leaving};
 use rules::images::Image;
 use rules::numbers::StateNo;
+use rules::refusals::Refusal;
 use std::io;
 
 const ROOT: StateNo = StateNo(0);
 
-fn told(
-    rt: &impl Print,
-    what: &[u8],
-    given: u32,
-    done: Done,
-    image: &[u8],
-    trace: &[u32],
-) -> io::Result<()> {
-    telling::text(rt, what)?;
-    match done {
-        Done::Refused(why) => telling::refused(rt, why.number),
-        Done::Went(left) => went(rt, given, left.units, left.items, image, trace),
-    }
+fn enter_root(chart: &Chart, now: &mut Now) -> Result<(), Refusal> {
+    entering::enter(chart, now, StateNo::LEVELS, ROOT, ROOT)
 }
 
-fn went(
-    rt: &impl Print,
-    given: u32,
-    left: u32,
-    items: usize,
-    image: &[u8],
-    trace: &[u32],
-) -> io::Result<()> {
-    if left <= given {
-        if items <= trace.len() {
-            telling::went(rt, given - left, &trace[0..items])?;
-            telling::states(rt, image)?;
+fn fire(chart: &Chart, now: &mut Now, source: u8, target: u8, path: &[u16]) -> Result<(), Refusal> {
+    firing::fire(chart, now, StateNo(source), StateNo(target), path)
+}
+
+fn leave_all(chart: &Chart, now: &mut Now) -> Result<(), Refusal> {
+    leaving::leave_children(chart, now, StateNo::LEVELS, ROOT)
+}
+
+fn enter_all(chart: &Chart, now: &mut Now) -> Result<(), Refusal> {
+    entering::enter_children(chart, now, StateNo::LEVELS, ROOT, ROOT)
+}
+
+// The chart, and the image that each step leaves to the next one.
+#[derive(Drop)]
+struct Run<'a> {
+    chart: Chart<'a>,
+    image: [u8; Image::SIZE],
+}
+
+impl<'a> Run<'a> {
+    // Takes a step with so many units and with room for so many items, 32 at most, and tells what came of it.
+    fn within<F: FnOnce(&Chart, &mut Now) -> Result<(), Refusal>>(
+        &mut self,
+        rt: &impl Print,
+        what: &str,
+        units: u32,
+        room: usize,
+        step: F,
+    ) -> io::Result<()>
+        requires { F.IsAlwaysCallable step }
+    {
+        let mut trace = [0u32; 32];
+        let trace = &mut trace[..room.min(32)];
+        let mut now = Now::new(&mut self.image, trace, Counts { units, items: 0 });
+        match step(&self.chart, &mut now) {
+            Ok(()) => telling::went(rt, what, units.saturating_sub(now.units()), &now),
+            Err(why) => println!(rt; "{what}: refused {}", why.number()),
         }
     }
-    Ok(())
-}
 
-fn enter_root(
-    rt: &impl Print,
-    what: &[u8],
-    chart: &[u8],
-    image: &mut [u8],
-    units: u32,
-    trace: &mut [u32],
-) -> io::Result<()> {
-    let h = headers::read(chart);
-    let counts = Counts { units, items: 0 };
-    let done = entering::enter(chart, h, image, trace, counts, StateNo::LEVELS, ROOT, ROOT);
-    told(rt, what, units, done, image, trace)
-}
-
-fn fire(
-    rt: &impl Print,
-    what: &[u8],
-    chart: &[u8],
-    image: &mut [u8],
-    source: u8,
-    target: u8,
-    path: &[u16],
-) -> io::Result<()> {
-    let mut trace = [0u32; 32];
-    let h = headers::read(chart);
-    let counts = Counts {
-        units: 100,
-        items: 0,
-    };
-    let done = firing::fire(
-        chart,
-        h,
-        image,
-        &mut trace,
-        counts,
-        StateNo(source),
-        StateNo(target),
-        path,
-    );
-    told(rt, what, 100, done, image, &trace)
-}
-
-fn leave_all(rt: &impl Print, what: &[u8], chart: &[u8], image: &mut [u8]) -> io::Result<()> {
-    let mut trace = [0u32; 32];
-    let h = headers::read(chart);
-    let counts = Counts {
-        units: 100,
-        items: 0,
-    };
-    let done = leaving::leave_children(chart, h, image, &mut trace, counts, StateNo::LEVELS, ROOT);
-    told(rt, what, 100, done, image, &trace)
-}
-
-fn enter_all(rt: &impl Print, what: &[u8], chart: &[u8], image: &mut [u8]) -> io::Result<()> {
-    let mut trace = [0u32; 32];
-    let h = headers::read(chart);
-    let counts = Counts {
-        units: 100,
-        items: 0,
-    };
-    let done = entering::enter_children(
-        chart,
-        h,
-        image,
-        &mut trace,
-        counts,
-        StateNo::LEVELS,
-        ROOT,
-        ROOT,
-    );
-    told(rt, what, 100, done, image, &trace)
-}
-
-fn refusals(rt: &impl Print, chart: &[u8]) -> io::Result<()> {
-    let mut image = [0u8; Image::SIZE];
-    let mut trace = [0u32; 11];
-    enter_root(rt, b"the root, 10 units", chart, &mut image, 10, &mut trace)?;
-    let mut another = [0u8; Image::SIZE];
-    let mut short = [0u32; 10];
-    enter_root(
-        rt,
-        b"the root, room for 10 items",
-        chart,
-        &mut another,
-        11,
-        &mut short,
-    )
-}
-
-fn firings(rt: &impl Print, chart: &[u8], image: &mut [u8]) -> io::Result<()> {
-    fire(rt, b"3 to 7", chart, image, 3, 7, &[0])?;
-    fire(rt, b"7 to 3", chart, image, 7, 3, &[1])?;
-    fire(rt, b"3 to 7 again", chart, image, 3, 7, &[0])?;
-    fire(rt, b"1 to itself", chart, image, 1, 1, &[2])?;
-    fire(
-        rt,
-        b"6 to 3 by the root's junction",
-        chart,
-        image,
-        6,
-        3,
-        &[3, 4],
-    )
+    fn tell<F: FnOnce(&Chart, &mut Now) -> Result<(), Refusal>>(
+        &mut self,
+        rt: &impl Print,
+        what: &str,
+        step: F,
+    ) -> io::Result<()>
+        requires { F.IsAlwaysCallable step }
+    {
+        self.within(rt, what, 100, 32, step)
+    }
 }
 
 fn main(rt: HostRuntime) -> io::Result<()> {
-    let mut chart = [0u8; building::LENGTH];
-    building::make(&mut chart);
-    telling::text(&rt, b"chart: ")?;
-    telling::number(&rt, checker::refusal(&chart) as u64)?;
-    telling::text(&rt, b"\n")?;
-    refusals(&rt, &chart)?;
-    let mut image = [0u8; Image::SIZE];
-    let mut trace = [0u32; 11];
-    enter_root(&rt, b"the root", &chart, &mut image, 11, &mut trace)?;
-    firings(&rt, &chart, &mut image)?;
-    leave_all(&rt, b"all below the root left", &chart, &mut image)?;
-    enter_all(&rt, b"all below the root entered", &chart, &mut image)
+    let mut bytes = [0u8; building::LENGTH];
+    building::make(&mut bytes);
+    println!(rt; "chart: {}", checker::refusal(&bytes))?;
+    let mut run = Run {
+        chart: Chart::read(&bytes),
+        image: [0u8; Image::SIZE],
+    };
+    let limits = [
+        ("the root, 10 units", 10, 11),
+        ("the root, room for 10 items", 11, 10),
+        ("the root", 11, 11),
+    ];
+    for (what, units, room) in limits {
+        run.image.fill(0);
+        run.within(&rt, what, units, room, enter_root)?;
+    }
+    run.tell(&rt, "3 to 7", |c, n| fire(c, n, 3, 7, &[0]))?;
+    run.tell(&rt, "7 to 3", |c, n| fire(c, n, 7, 3, &[1]))?;
+    run.tell(&rt, "3 to 7 again", |c, n| fire(c, n, 3, 7, &[0]))?;
+    run.tell(&rt, "1 to itself", |c, n| fire(c, n, 1, 1, &[2]))?;
+    let what = "6 to 3 by the root's junction";
+    run.tell(&rt, what, |c, n| fire(c, n, 6, 3, &[3, 4]))?;
+    run.tell(&rt, "all below the root left", leave_all)?;
+    run.tell(&rt, "all below the root entered", enter_all)
 }

@@ -3,7 +3,7 @@ ghost use Rattle.std.specs.Prelude.{◌≡◌, leb};
 ghost use Rattle.rules.specs.Chart.{header_size};
 ghost use Rattle.rules.specs.Types.{fits_of, made_of};
 
-#[derive(Clone, Copy)]
+#[derive(Clone, Copy, PartialEq, Eq, Debug)]
 pub struct Header {
     pub states: u8,
     pub junctions: u8,
@@ -12,13 +12,6 @@ pub struct Header {
     pub events: u8,
     pub outputs: u8,
     pub instructions: u16,
-}
-
-// A header, or a count outside its range.
-#[derive(Clone, Copy)]
-pub enum Made {
-    Of(Header),
-    Outside,
 }
 
 impl Header {
@@ -51,26 +44,22 @@ impl Header {
     }
 
     // The header, where each count is in its range.
-    pub fn checked(self) -> Made
+    pub fn checked(self) -> Option<Header>
         ensures { result ≡ made_of self }
     {
-        if self.fits() {
-            Made::Of(self)
-        } else {
-            Made::Outside
-        }
+        self.fits().then_some(self)
     }
 
+    #[tactic(auto, unfolding(crate::specs::Accept::counts_right, crate::specs::Lists::all, crate::specs::Lists::every))]
     fn fits(self) -> bool
         ensures { result ≡ fits_of self }
     {
-        let states = (1 <= self.states) & (self.states <= Header::MOST_STATES);
-        let junctions = self.junctions <= Header::MOST_JUNCTIONS;
-        let segments = self.segments <= Header::MOST_SEGMENTS;
-        let variables = self.variables <= Header::MOST_VARIABLES;
-        let events = (1 <= self.events) & (self.events <= Header::MOST_EVENTS);
-        let outputs = self.outputs <= Header::MOST_OUTPUTS;
-        let instructions = self.instructions <= Header::MOST_INSTRUCTIONS;
-        states & (junctions & (segments & (variables & (events & (outputs & instructions)))))
+        (1..=Header::MOST_STATES).contains(&self.states)
+            && self.junctions <= Header::MOST_JUNCTIONS
+            && self.segments <= Header::MOST_SEGMENTS
+            && self.variables <= Header::MOST_VARIABLES
+            && (1..=Header::MOST_EVENTS).contains(&self.events)
+            && self.outputs <= Header::MOST_OUTPUTS
+            && self.instructions <= Header::MOST_INSTRUCTIONS
     }
 }

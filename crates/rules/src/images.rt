@@ -3,16 +3,9 @@ ghost use Rattle.std.specs.Prelude.{◌≡◌};
 ghost use Rattle.rules.specs.Types.{part_of};
 
 // Where an image starts on a board.
-#[derive(Clone, Copy)]
+#[derive(Clone, Copy, PartialEq, Eq, Debug)]
 pub struct Image {
     pub at: usize,
-}
-
-// A lift's part of the board, or none.
-#[derive(Clone, Copy)]
-pub enum Part {
-    At(Image),
-    Missing,
 }
 
 impl Image {
@@ -30,17 +23,18 @@ impl Image {
 
     pub const LAST_LIFT: u32 = 63;
 
-    pub fn of_lift(lift: u32, bytes: usize) -> Part
+    // A lift's part of a board of so many bytes, where it has that part.
+    pub fn of_lift(lift: u32, bytes: usize) -> Option<Image>
         ensures { result ≡ part_of lift bytes }
     {
         if Image::LAST_LIFT < lift {
-            return Part::Missing;
+            return None;
         }
         let k = lift as usize;
         let at = Image::SIZE * k;
         if bytes < at + Image::SIZE {
-            return Part::Missing;
+            return None;
         }
-        Part::At(Image { at })
+        Some(Image { at })
     }
 }

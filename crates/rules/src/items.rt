@@ -1,13 +1,27 @@
 // A trace item: what happened, and to which state, segment or output.
 ghost use Rattle.std.specs.Prelude.{◌≡◌, ◌+◌, ◌*◌};
-ghost use Rattle.rules.specs.Doing.{Act, item_of, room_of};
+ghost use Rattle.rules.specs.Doing.{room_of};
+ghost use Rattle.rules.specs.Types.{word_of};
 
 use crate::numbers::{SegmentNo, StateNo};
 
-#[derive(Clone, Copy)]
-pub struct Item {
-    pub kind: u8,
-    pub number: u16,
+#[derive(Clone, Copy, PartialEq, Eq, Debug)]
+pub enum Item {
+    Entered(StateNo),
+    Left(StateNo),
+    During(StateNo),
+    Passed(SegmentNo),
+    Transition(SegmentNo),
+    Raised(u8),
+}
+
+// A kind and a number as the words of a trace have them.
+pub fn joined(kind: u8, number: u16) -> u32
+    ensures { result ≡ kind * 65536 + number }
+{
+    let kind = kind as u32;
+    let number = number as u32;
+    kind * Item::KIND_PLACE + number
 }
 
 impl Item {
@@ -19,78 +33,24 @@ impl Item {
     // Items of one step.
     pub const MOST: usize = 256;
 
-    pub fn entered(s: StateNo) -> Item
-        ensures { result.kind * 65536 + result.number ≡ item_of Act.state_entered s.0 }
-    {
-        Item {
-            kind: 1,
-            number: s.0 as u16,
-        }
-    }
-
-    pub fn left(s: StateNo) -> Item
-        ensures { result.kind * 65536 + result.number ≡ item_of Act.state_left s.0 }
-    {
-        Item {
-            kind: 2,
-            number: s.0 as u16,
-        }
-    }
-
-    pub fn during(s: StateNo) -> Item
-        ensures { result.kind * 65536 + result.number ≡ item_of Act.during_point s.0 }
-    {
-        Item {
-            kind: 3,
-            number: s.0 as u16,
-        }
-    }
-
-    pub fn passed(t: SegmentNo) -> Item
-        ensures { result.kind * 65536 + result.number ≡ item_of Act.segment_passed t.0 }
-    {
-        Item {
-            kind: 4,
-            number: t.0,
-        }
-    }
-
-    pub fn transition(t: SegmentNo) -> Item
-        ensures { result.kind * 65536 + result.number ≡ item_of Act.transition_performed t.0 }
-    {
-        Item {
-            kind: 5,
-            number: t.0,
-        }
-    }
-
-    pub fn raised(output: u8) -> Item
-        ensures { result.kind * 65536 + result.number ≡ item_of Act.output_raised output }
-    {
-        Item {
-            kind: 6,
-            number: output as u16,
-        }
-    }
-
     // The item as it stands in a trace.
     pub fn word(self) -> u32
-        ensures { result ≡ self.kind * 65536 + self.number }
+        ensures { result ≡ word_of self }
     {
-        let kind = self.kind as u32;
-        let number = self.number as u32;
-        kind * Item::KIND_PLACE + number
+        match self {
+            Item::Entered(s) => joined(1, s.0 as u16),
+            Item::Left(s) => joined(2, s.0 as u16),
+            Item::During(s) => joined(3, s.0 as u16),
+            Item::Passed(t) => joined(4, t.0),
+            Item::Transition(t) => joined(5, t.0),
+            Item::Raised(output) => joined(6, output as u16),
+        }
     }
 
     // How many items there is room for in a lent trace.
     pub fn room(bytes: usize) -> usize
         ensures { result ≡ room_of bytes }
     {
-        let quarter = bytes / Item::SIZE;
-        if quarter < Item::MOST {
-            quarter
-        } else {
-            Item::MOST
-        }
+        Item::MOST.min(bytes / Item::SIZE)
     }
 }

@@ -5,3 +5,4 @@ pub mod numbers; // state, junction and segment numbers, kept apart
 pub mod headers; // a chart's counts
 pub mod images; // a lift's image, and its place on a board
 pub mod items; // a trace item
+pub mod refusals; // why a call is refused

@@ -1,6 +1,6 @@
 // The numbers of states, junctions and segments, kept apart so that a junction is never taken for a state.
 
-#[derive(Clone, Copy)]
+#[derive(Clone, Copy, PartialEq, Eq, Debug)]
 pub struct StateNo(pub u8);
 
 impl StateNo {
@@ -17,7 +17,7 @@ impl StateNo {
     pub const LEVELS: u8 = StateNo::DEEPEST + 1;
 }
 
-#[derive(Clone, Copy)]
+#[derive(Clone, Copy, PartialEq, Eq, Debug)]
 pub struct JunctionNo(pub u8);
 
 impl JunctionNo {
@@ -28,7 +28,7 @@ impl JunctionNo {
     pub const PLACES: usize = 256;
 }
 
-#[derive(Clone, Copy)]
+#[derive(Clone, Copy, PartialEq, Eq, Debug)]
 pub struct SegmentNo(pub u16);
 
 impl SegmentNo {

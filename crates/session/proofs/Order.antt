@@ -3,12 +3,13 @@
 use mathlib.Core.Path.{◌≡◌, refl, sym, ap, ◌∙◌}
 use mathlib.Core.Bool.{Bool, true, false, ◌||◌, not, true≢false, false≢true}
 use mathlib.Core.List.{[], ◌∷◌, ◌++◌, append-nil}
-use Prim.Native.Nat.{ℕ, ◌+◌, ◌-◌, ◌≤◌, ◌<◌}
+use Prim.Native.Nat.{ℕ, ◌+◌, ◌-◌, ◌≤◌, ◌<◌, min}
 use native.Mathlib.Omega.{arith}
 use borrow.Author.Tests.{leb-true, leb-false, le-leb, lt-ltb, ltb-false, not-false, not-true}
 use lib.Dec.{leb, ltb}
-use lib.ListN.{length, take, drop, replicate, length-take, length-drop, drop_of_length-le}
-use lib.Seq.{take_all, drop-drop, length-take-le}
+use lib.ListN.{length, take, drop, replicate, length-append, length-drop}
+use lib.Seq.{take_all, length-take-le}
+use Rattle.std.proofs.lemmas.List.{nil_from_length}
 use Rattle.std.specs.declared.option.Option.{Option}
 use Rattle.std.specs.Prelude.{None, Some, IfSome}
 use Rattle.rules.specs.Bytes.{Bytes, byte, field}
@@ -20,7 +21,7 @@ use Rattle.rules.specs.Calls.{Board, Answer, fresh_call, bound_call, step_call, 
 use Rattle.rules.specs.Image.{image_size}
 use Rattle.rules.specs.Session.{bad_session, step_line, event_lines, chart_lines, is_bad, session}
 use Rattle.rules.proofs.Laws.{and_left, and_right}
-use Rattle.session.specs.Said.{Line, Told, told, starts_with_event, Lent, after_events, bound_line, after_chart, chart_text, Adds}
+use Rattle.session.specs.Said.{Told, told, starts_with_event, Lent, after_events, bound_line, after_chart, chart_text, Taken, Adds}
 
 -- a session that is not bad has its whole chart
 second-no : (a b : Bool) → (a || b) ≡ false → b ≡ false
@@ -32,20 +33,28 @@ unfolding is_bad
 chart-within s own good e =
     rw e (ltb-false (length s) (4 + field 2 s 2) (second-no (ltb 16384 (length s) || not (marked s "SE" 0)) _ (sym own ∙ good)))
 
--- an event's record at some place is whole
-module _ (events : Bytes) (at : ℕ) {t : Bool} (own : t ≡ starts_with_event (take (length events - at) (drop at events)))
-    (so : t ≡ true) where
-  pub record-whole : 3 ≤ length (take (length events - at) (drop at events))
-  record-whole =
-      let r = take (length events - at) (drop at events) in
-      leb-true 3 (length r) (and_left (leb 3 (length r)) (marked r "EV" 0) (sym own ∙ so))
+-- a record is whole where an event's comes
+pub record-whole : (r : Bytes) {t : Bool} → t ≡ starts_with_event r → t ≡ true → 3 ≤ length r
+record-whole r own so = leb-true 3 (length r) (and_left (leb 3 (length r)) (marked r "EV" 0) (sym own ∙ so))
 
-  pub record-within : at + 3 ≤ length events
-  record-within = omega (arith, rw (length-take, length-drop) at record-whole)
+-- what there is, a record and what stands behind it
+pub record Cut (all r rest : Bytes) : Type 0 where
+  pub parts : all ≡ r ++ rest
+  pub size : length r ≡ min 3 (length all)
+  pub some : 0 < length all
+
+-- each record takes one byte or more
+pub fewer : {all r rest : Bytes} → Cut all r rest → length rest + 1 ≤ length all
+fewer {r = r} {rest = rest} cut = omega (arith, ap length cut.parts, length-append r rest, cut.size, cut.some)
+
+-- a record that is shorter is the last
+last : (r rest : Bytes) → length r ≡ min 3 (length (r ++ rest)) → length r < 3 → rest ≡ []
+last r [] e h = refl
+last r (x ∷ rest) e h = absurd (omega (arith, e, length-append r (x ∷ rest)))
 
 module _ (c : Chart) (board : Board) (trace : Bytes) where
   -- the step of a record's event
-  abbrev stepped : Bytes → Answer
+  abbrev pub stepped : Bytes → Answer
   stepped r = step_call c board trace 0 (byte r 2) most_units
 
   -- an event's line, and then the lines of the records behind it, over what the step left
@@ -65,77 +74,86 @@ module _ (c : Chart) (board : Board) (trace : Bytes) where
   no-event (m ∷ n ∷ []) t h = refl
   no-event (m ∷ n ∷ e ∷ rest) t h = rw (rw (le-leb 3 (length (m ∷ n ∷ e ∷ rest)) (omega arith)) at t)
 
+  -- the same of a record that is cut off, with what stands behind it
+  pub event-cut : (r rest : Bytes) → starts_with_event r ≡ true → length r ≤ 3
+      → event_lines c board trace (r ++ rest) ≡ step_line (stepped r) ++ event_lines c (stepped r).board (stepped r).trace rest
+  unfolding event_lines when◌then◌else◌ marked
+  event-cut [] rest t h = absurd (false≢true t)
+  event-cut (m ∷ []) rest t h = absurd (false≢true t)
+  event-cut (m ∷ n ∷ []) rest t h = absurd (false≢true t)
+  event-cut (m ∷ n ∷ e ∷ []) rest t h = rw (and_right (leb 3 3) (marked (m ∷ n ∷ []) "EV" 0) t)
+  event-cut (m ∷ n ∷ e ∷ x ∷ r) rest t h = absurd (omega arith)
+
+  -- any other record ends the session
+  pub none-cut : (r rest : Bytes) → starts_with_event r ≡ false → 0 < length r → length r ≡ min 3 (length (r ++ rest))
+      → event_lines c board trace (r ++ rest) ≡ bad_session
+  unfolding event_lines when◌then◌else◌ marked
+  none-cut [] rest t h e = absurd (omega arith)
+  none-cut (m ∷ []) rest t h e = rw (last (m ∷ []) rest e (omega arith))
+  none-cut (m ∷ n ∷ []) rest t h e = rw (last (m ∷ n ∷ []) rest e (omega arith))
+  none-cut (m ∷ n ∷ e ∷ []) rest t h q = rw t
+  none-cut (m ∷ n ∷ e ∷ x ∷ r) rest t h q = absurd (omega (arith, q))
+
   -- what is left goes the same way: by the event's step, and no further than the events
-  pub after_next : (k : ℕ) (r : Bytes) → starts_with_event r ≡ true
-      → after_events c board trace k r ≡ after_events c (stepped r).board (stepped r).trace (k + 1) (drop 3 r)
+  after_next : (k : ℕ) (r rest : Bytes) → starts_with_event r ≡ true → length r ≤ 3
+      → after_events c board trace k (r ++ rest) ≡ after_events c (stepped r).board (stepped r).trace (k + 1) rest
   unfolding after_events when◌then◌else◌ marked
-  after_next k [] t = absurd (false≢true t)
-  after_next k (m ∷ []) t = absurd (false≢true t)
-  after_next k (m ∷ n ∷ []) t = absurd (false≢true t)
-  after_next k (m ∷ n ∷ e ∷ rest) t = rw (and_right (leb 3 (length (m ∷ n ∷ e ∷ rest))) (marked (m ∷ n ∷ []) "EV" 0) t)
+  after_next k [] rest t h = absurd (false≢true t)
+  after_next k (m ∷ []) rest t h = absurd (false≢true t)
+  after_next k (m ∷ n ∷ []) rest t h = absurd (false≢true t)
+  after_next k (m ∷ n ∷ e ∷ []) rest t h = rw (and_right (leb 3 3) (marked (m ∷ n ∷ []) "EV" 0) t)
+  after_next k (m ∷ n ∷ e ∷ x ∷ r) rest t h = absurd (omega arith)
 
-  pub after_none : (k : ℕ) (r : Bytes) → starts_with_event r ≡ false → 0 < length r
-      → after_events c board trace k r ≡ record { board = board; trace = trace; lines = k + 1 }
+  after_none : (k : ℕ) (r rest : Bytes) → starts_with_event r ≡ false → 0 < length r → length r ≡ min 3 (length (r ++ rest))
+      → after_events c board trace k (r ++ rest) ≡ record { board = board; trace = trace; lines = k + 1 }
   unfolding after_events when◌then◌else◌ marked
-  after_none k [] t h = absurd (omega arith)
-  after_none k (m ∷ []) t h = refl
-  after_none k (m ∷ n ∷ []) t h = refl
-  after_none k (m ∷ n ∷ e ∷ rest) t h = rw (rw (le-leb 3 (length (m ∷ n ∷ e ∷ rest)) (omega arith)) at t)
+  after_none k [] rest t h e = absurd (omega arith)
+  after_none k (m ∷ []) rest t h e = rw (last (m ∷ []) rest e (omega arith))
+  after_none k (m ∷ n ∷ []) rest t h e = rw (last (m ∷ n ∷ []) rest e (omega arith))
+  after_none k (m ∷ n ∷ e ∷ []) rest t h q = rw t
+  after_none k (m ∷ n ∷ e ∷ x ∷ r) rest t h q = absurd (omega (arith, q))
 
--- the events from a place on, as the loop lends them
+-- a turn of the loop, over a record and what stands behind it: what is left, and what is still to be said
+module _ (c : Chart) (board : Board) (trace : Bytes) (k : ℕ) {all r rest : Bytes} (cut : Cut all r rest) {t : Bool} (own : t ≡ starts_with_event r) where
+  module _ (so : t ≡ true) {l : Bytes} {board' : Board} {trace' : Bytes}
+      (e : record { said = l; board = board'; trace = trace' } ≡ told (step_call c board trace 0 (byte r 2) most_units)) where
+    boards : board' ≡ (stepped c board trace r).board
+    boards = ap (λ (x : Told). x.board) e
+
+    traces : trace' ≡ (stepped c board trace r).trace
+    traces = ap (λ (x : Told). x.trace) e
+
+    short : length r ≤ 3
+    short = omega (arith, cut.size)
+
+    pub turn : after_events c board' trace' (k + 1) rest ≡ after_events c board trace k all
+    turn = rw (boards, traces, cut.parts) (sym (after_next c board trace k r rest (sym own ∙ so) short))
+
+    pub lines-turn : event_lines c board trace all ≡ l ++ event_lines c board' trace' rest
+    lines-turn = rw (boards, traces, ap (λ (x : Told). x.said) e, cut.parts) (event-cut c board trace r rest (sym own ∙ so) short)
+
+  module _ (other : t ≡ false) where
+    begins : 0 < length r
+    begins = omega (arith, cut.size, cut.some)
+
+    pub turned-away : record { board = board; trace = trace; lines = k + 1 } ≡ after_events c board trace k all
+    turned-away = rw cut.parts (sym (after_none c board trace k r rest (sym own ∙ other) begins (rw cut.parts at cut.size)))
+
+    pub lines-away : event_lines c board trace all ≡ bad_session
+    lines-away = rw cut.parts (none-cut c board trace r rest (sym own ∙ other) begins (rw cut.parts at cut.size))
+
+module _ (c : Chart) (board : Board) (trace : Bytes) (k : ℕ) (all : Bytes) (none : length all ≡ 0) where
+  pub all_told : record { board = board; trace = trace; lines = k } ≡ after_events c board trace k all
+  unfolding after_events
+  all_told = rw (nil_from_length all none)
+
+  pub lines-all : event_lines c board trace all ≡ []
+  unfolding event_lines
+  lines-all = rw (nil_from_length all none)
+
+-- the last bytes, as they are lent
 rest_all : (events : Bytes) (at : ℕ) → take (length events - at) (drop at events) ≡ drop at events
 rest_all events at = take_all (length events - at) (drop at events) (omega (arith, length-drop at events))
-
--- a turn of the loop: by an event's step what is left stays what it was, and at another record, or behind the last, it is there
-module _ (c : Chart) (events : Bytes) (at : ℕ) (board : Board) (trace : Bytes) (k : ℕ) where
-  pub turn : {t : Bool} → t ≡ starts_with_event (take (length events - at) (drop at events)) → t ≡ true
-      → (b : Bytes) {l : Line} {board' : Board} {trace' : Bytes}
-      → record { said = l; board = board'; trace = trace' }
-      ≡ told b (step_call c board trace 0 (byte (take (length events - at) (drop at events)) 2) most_units)
-      → after_events c board' trace' (k + 1) (drop (at + 3) events) ≡ after_events c board trace k (drop at events)
-  turn {t} own so b e =
-      let r : take (length events - at) (drop at events) ≡ drop at events = rest_all events at in
-      let yes : starts_with_event (drop at events) ≡ true = rw r at (sym own ∙ so) in
-      let boards = ap (λ (x : Told). x.board) e in
-      let traces = ap (λ (x : Told). x.trace) e in
-      rw (boards, traces, r, ← drop-drop 3 at events) (sym (after_next c board trace k (drop at events) yes))
-
-  pub turned-away : {t : Bool} → t ≡ starts_with_event (take (length events - at) (drop at events)) → t ≡ false
-      → at < length events → record { board = board; trace = trace; lines = k + 1 } ≡ after_events c board trace k (drop at events)
-  turned-away {t} own so h =
-      let none = rw (rest_all events at) at (sym own ∙ so) in
-      sym (after_none c board trace k (drop at events) none (omega (arith, length-drop at events)))
-
-  pub all_told : length events ≤ at
-      → record { board = board; trace = trace; lines = k } ≡ after_events c board trace k (drop at events)
-  unfolding after_events
-  all_told h = rw (drop_of_length-le events h)
-
--- what is still to be said, at each turn
-module _ (c : Chart) (events : Bytes) (at : ℕ) (board : Board) (trace : Bytes) where
-  pub lines-turn : {t : Bool} → t ≡ starts_with_event (take (length events - at) (drop at events)) → t ≡ true
-      → (b : Bytes) {l : Line} {board' : Board} {trace' : Bytes}
-      → record { said = l; board = board'; trace = trace' }
-      ≡ told b (step_call c board trace 0 (byte (take (length events - at) (drop at events)) 2) most_units)
-      → event_lines c board trace (drop at events)
-      ≡ step_line (step_call c board trace 0 (byte (take (length events - at) (drop at events)) 2) most_units)
-      ++ event_lines c board' trace' (drop (at + 3) events)
-  lines-turn {t} own event b e =
-      let r : take (length events - at) (drop at events) ≡ drop at events = rest_all events at in
-      let an-event : starts_with_event (drop at events) ≡ true = rw r at (sym own ∙ event) in
-      let boards = ap (λ (x : Told). x.board) e in
-      let traces = ap (λ (x : Told). x.trace) e in
-      rw (boards, traces, r, ← drop-drop 3 at events) (event-next c board trace (drop at events) an-event)
-
-  pub lines-away : {t : Bool} → t ≡ starts_with_event (take (length events - at) (drop at events)) → t ≡ false
-      → at < length events → event_lines c board trace (drop at events) ≡ bad_session
-  lines-away {t} own other h =
-      let none = rw (rest_all events at) at (sym own ∙ other) in
-      no-event c board trace (drop at events) none (omega (arith, length-drop at events))
-
-  pub lines-all : length events ≤ at → event_lines c board trace (drop at events) ≡ []
-  unfolding event_lines
-  lines-all h = rw (drop_of_length-le events h)
 
 -- the chart's own turn: the lift is made fresh and the events follow, or the chart is refused and nothing does
 module _ (c : Chart) (board : Board) (trace events : Bytes) {t : Bool} (own : t ≡ not (within 1 11 (bound_call c).refusal.number)) where
@@ -193,9 +211,9 @@ session-front given = by-length (leb (length given) 16384) refl
         session-long (take 16385 given) (omega (arith, length-take-le 16385 given (omega arith))) ∙ sym (session-long given (omega arith))
 
 -- what was written of the bytes that came is the text of all that there is, where all came
-module _ (t u : Bool) (a b : Option Bytes) (s text : Bytes) (is : text ≡ session s) (w : Adds t u a b text) where
+module _ (a b : Taken) (s text : Bytes) (is : text ≡ session s) (w : Adds a b text) where
   pub told-all : (n : ℕ) → n ≡ 16385 → (known : Option Bytes) → IfSome known (λ given. s ≡ take n given)
-      → IfSome known (λ given. Adds t u a b (session given))
+      → IfSome known (λ given. Adds a b (session given))
   told-all n long None e = tt
   told-all n long (Some given) e =
       let all : text ≡ session given = is ∙ ap session (e ∙ ap (λ m. take m given) long) ∙ session-front given in
@@ -203,7 +221,7 @@ module _ (t u : Bool) (a b : Option Bytes) (s text : Bytes) (is : text ≡ sessi
 
   -- and in any case it is that of the first bytes, so many
   pub told-some : (n : ℕ) (known : Option Bytes) → IfSome known (λ given. s ≡ take n given)
-      → IfSome known (λ given. (k : ℕ) × Adds t u a b (session (take k given)))
+      → IfSome known (λ given. (k : ℕ) × Adds a b (session (take k given)))
   told-some n None e = tt
   told-some n (Some given) e =
       let some : text ≡ session (take n given) = is ∙ ap session e in

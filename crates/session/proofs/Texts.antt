@@ -1,30 +1,17 @@
--- A text is put piece by piece: each piece behind the one before, and none longer than its room. Assumes nothing.
+-- Digits, numbers and items as texts: each behind the one before, and none longer than its room. Assumes nothing.
 use mathlib.Core.Path.{◌≡◌, refl, sym, ap, ◌∙◌}
 use mathlib.Core.Bool.{Bool, true, false}
 use mathlib.Core.List.{List, [], ◌∷◌, ◌++◌, append_assoc, append-nil}
 use Prim.Native.Nat.{ℕ, zero, suc, ◌+◌, ◌*◌, ◌/◌, ◌%◌, ◌-◌, ◌≤◌, ◌<◌}
-use native.Mathlib.Nat.{add_assoc}
 use native.Mathlib.Omega.{arith}
 use lib.Dec.{ltb}
 use borrow.Author.Tests.{lt-ltb, le-ltb}
-use lib.ListN.{length, drop, set, length-append}
-use lib.Seq.{sets}
+use lib.ListN.{length, drop, length-append}
 use Rattle.rules.specs.Bytes.{Bytes, ascii, field}
 use Rattle.rules.specs.Lists.{when◌then◌else◌}
 use Rattle.rules.specs.Session.{decimal, line, items_in}
 use Rattle.fields.proofs.Laws.{field-drop}
-use Rattle.session.specs.Said.{Line, with_text, spaced}
-
--- two pieces put one behind the other are one
-pub sets_then : (b : Bytes) (at : ℕ) (xs ys : Bytes) → sets (sets b at xs) (at + length xs) ys ≡ sets b at (xs ++ ys)
-sets_then b at [] ys = ap (λ k. sets b k ys) (omega arith)
-sets_then b at (x ∷ xs) ys =
-    ap (λ k. sets (sets (set b at x) (suc at) xs) k ys) (omega arith) ∙ sets_then (set b at x) (suc at) xs ys
-
-pub put_then : (b : Bytes) (at : ℕ) (xs ys : Bytes) {m l : Line} → m ≡ with_text b at xs
-    → l ≡ with_text m.bytes m.end ys → l ≡ with_text b at (xs ++ ys)
-put_then b at xs ys first second =
-    second ∙ rw (first, sets_then b at xs ys, length-append xs ys, add_assoc at (length xs) (length ys))
+use Rattle.session.specs.Said.{spaced}
 
 -- a number has at most the digits asked
 pub decimal-room : (d n : ℕ) → length (decimal d n) ≤ d
@@ -37,22 +24,36 @@ decimal-room (suc d) n = by-test (ltb n 10) (decimal-room d (n / 10))
     by-test true h = omega arith
     by-test false h = omega (arith, length-append (decimal d (n / 10)) ((48 + n % 10) ∷ []), h)
 
--- no digit, one alone, and one behind others
-pub no-digits : (b : Bytes) (at d n : ℕ) → d ≡ 0 → record { bytes = b; end = at } ≡ with_text b at (decimal d n)
+pub no-digits : (d n : ℕ) → d ≡ 0 → decimal d n ≡ []
 unfolding decimal
-no-digits b at d n h = rw h (ap (λ k. record { bytes = b; end = k }) (omega arith))
+no-digits zero n e = refl
+no-digits (suc d) n e = absurd (omega arith)
 
-pub one-digit : (d n : ℕ) → (d ≡ 0 → ⊥) → n < 10 → decimal d n ≡ (48 + n % 10) ∷ []
-unfolding decimal when◌then◌else◌
-one-digit zero n h l = elim (h refl) [ ]
-one-digit (suc d) n h l = rw (lt-ltb n 10 l) refl
+-- the digits before the last
+abbrev pub before_last : ℕ → ℕ → Bytes
+before_last d n = when ltb n 10 then [] else decimal (d - 1) (n / 10)
 
-pub more-digits : (d n : ℕ) → (d ≡ 0 → ⊥) → 10 ≤ n → decimal d n ≡ decimal (d - 1) (n / 10) ++ ((48 + n % 10) ∷ [])
-unfolding decimal when◌then◌else◌
-more-digits zero n h l = elim (h refl) [ ]
-more-digits (suc d) n h l =
-    let e : suc d - 1 ≡ d = omega arith in
-    rw (le-ltb n 10 l) (ap (λ k. decimal k (n / 10) ++ ((48 + n % 10) ∷ [])) (sym e))
+module _ (d n : ℕ) where
+  pub none-before : n < 10 → before_last d n ≡ []
+  unfolding when◌then◌else◌
+  none-before h = rw (lt-ltb n 10 h)
+
+  pub some-before : 10 ≤ n → before_last d n ≡ decimal (d - 1) (n / 10)
+  unfolding when◌then◌else◌
+  some-before h = rw (le-ltb n 10 h)
+
+pub decimal-last : (d n : ℕ) → (d ≡ 0 → ⊥) → decimal d n ≡ before_last d n ++ ((48 + n % 10) ∷ [])
+unfolding decimal
+decimal-last zero n h = elim (h refl) [ ]
+decimal-last (suc d) n h = let e : suc d - 1 ≡ d = omega arith in rw e
+
+pub before-room : (d n : ℕ) → (d ≡ 0 → ⊥) → length (before_last d n) + 1 ≤ d
+unfolding when◌then◌else◌
+before-room d n h = by-test (ltb n 10)
+  where
+    by-test : (t : Bool) → length (when t then [] else decimal (d - 1) (n / 10)) + 1 ≤ d
+    by-test true = omega arith
+    by-test false = omega (arith, decimal-room (d - 1) (n / 10))
 
 -- numbers behind others: a space and 20 digits each, at most
 pub spaced-room : (ns : List ℕ) → length (spaced ns) ≤ 21 * length ns
@@ -92,21 +93,20 @@ items_more (suc n) trace =
     ap (λ is. field 4 trace 0 ∷ is) (items_more n (drop 4 trace))
     ∙ ap (λ k. items_in (suc n) trace ++ (k ∷ [])) (field-drop 4 trace 4 (4 * n) ∙ ap (field 4 trace) (omega arith))
 
--- the first n items of a trace, put behind others
-abbrev pub with_items : Bytes → ℕ → Bytes → ℕ → Line
-with_items b at trace n = with_text b at (spaced (items_in n trace))
+-- the first n items, and one more, behind a text
+module _ (text trace : Bytes) (n : ℕ) {so_far : Bytes} (so : so_far ≡ text ++ spaced (items_in n trace)) where
+  pub item-next : {new : Bytes} → new ≡ so_far ++ (ascii " " ++ decimal 20 (field 4 trace (4 * n))) → new ≡ text ++ spaced (items_in (n + 1) trace)
+  item-next put =
+      let k = field 4 trace (4 * n) in
+      let one : n + 1 ≡ suc n = omega arith in
+      put
+      ∙ rw (so, one, items_more n trace, spaced-append (items_in n trace) (k ∷ []), spaced-one k)
+      (append_assoc text (spaced (items_in n trace)) (ascii " " ++ decimal 20 k))
 
-pub no_item : (b : Bytes) (at : ℕ) (trace : Bytes) → record { bytes = b; end = at } ≡ with_items b at trace 0
+  pub items-room : length so_far ≤ length text + 21 * n
+  items-room =
+      omega (arith, ap length so, length-append text (spaced (items_in n trace)), spaced-room (items_in n trace), items-count n trace)
+
+pub no_item : (text trace : Bytes) → text ≡ text ++ spaced (items_in 0 trace)
 unfolding spaced items_in
-no_item b at trace = ap (λ k. record { bytes = b; end = k }) (omega arith)
-
-pub item-put : (b : Bytes) (at : ℕ) (trace : Bytes) (n : ℕ) {m l : Line} → m ≡ with_items b at trace n
-    → l ≡ with_text m.bytes m.end (ascii " " ++ decimal 20 (field 4 trace (4 * n))) → l ≡ with_items b at trace (n + 1)
-item-put b at trace n first second =
-    let k = field 4 trace (4 * n) in
-    let one : n + 1 ≡ suc n = omega arith in
-    put_then b at (spaced (items_in n trace)) (ascii " " ++ decimal 20 k) first second
-    ∙ rw (one, items_more n trace, spaced-append (items_in n trace) (k ∷ []), spaced-one k)
-
-pub items-room : (n : ℕ) (trace : Bytes) → length (spaced (items_in n trace)) ≤ 21 * n
-items-room n trace = omega (arith, spaced-room (items_in n trace), items-count n trace)
+no_item text trace = sym (append-nil text)

@@ -7,10 +7,10 @@ use lib.Seq.{length-take-le, take-take, take-append-add}
 use borrow.Rule.Slice.PartMut.{put_mid}
 use Rattle.std.proofs.lemmas.Slice.{take-put_mid}
 use Rattle.std.specs.declared.option.Option.{Option}
-use Rattle.std.specs.Prelude.{Bool, None, Some, ℕ, ◌+◌, ◌≤◌}
+use Rattle.std.specs.Prelude.{None, Some, ℕ, ◌+◌, ◌≤◌}
 use Rattle.std.specs.Io.KnownBytes.{Appends, Consumes}
 use Rattle.rules.specs.Bytes.{Bytes}
-use Rattle.session.specs.Said.{Adds}
+use Rattle.session.specs.Said.{Taken, Adds}
 
 pub appends-then : (a b c : Option Bytes) (xs ys : Bytes) → Appends a b xs → Appends b c ys → Appends a c (xs ++ ys)
 appends-then None b c xs ys p q = tt
@@ -42,32 +42,32 @@ take-read at k n bytes part h l =
     ∙ take-append-add (take at bytes) part n
 
 -- texts that are all taken, one behind the other
-pub adds-then : (t u v : Bool) (a b c : Option Bytes) (xs ys : Bytes) → Adds t u a b xs → Adds u v b c ys → Adds t v a c (xs ++ ys)
-adds-then t u v a b c xs ys p q so =
+pub adds-then : (a b c : Taken) (xs ys : Bytes) → Adds a b xs → Adds b c ys → Adds a c (xs ++ ys)
+adds-then a b c xs ys p q so =
     let later = q so in
     let first = p later.0 in
-    (first.0, appends-then a b c xs ys first.1 later.1)
+    (first.0, appends-then a.contents b.contents c.contents xs ys first.1 later.1)
 
 -- a text was written, and with the rest it is the whole
-pub record Written (t u : Bool) (a b : Option Bytes) (whole rest : Bytes) : Type 0 where
+pub record Written (a b : Taken) (whole rest : Bytes) : Type 0 where
   pub text : Bytes
-  pub adds : Adds t u a b text
+  pub adds : Adds a b text
   pub is : text ++ rest ≡ whole
 
-pub begun : (t : Bool) (a : Option Bytes) (whole : Bytes) → Written t t a a whole whole
-begun t a whole = record { text = []; adds = λ so. (so, appends-nothing a); is = refl }
+pub begun : (a : Taken) (whole : Bytes) → Written a a whole whole
+begun a whole = record { text = []; adds = λ so. (so, appends-nothing a.contents); is = refl }
 
-module _ {t u : Bool} {a b : Option Bytes} {whole rest : Bytes} (so : Written t u a b whole rest) where
-  pub more : (v : Bool) (c : Option Bytes) (new rest' : Bytes) → Adds u v b c new → rest ≡ new ++ rest' → Written t v a c whole rest'
-  more v c new rest' p e =
+module _ {a b : Taken} {whole rest : Bytes} (so : Written a b whole rest) where
+  pub more : (c : Taken) (new rest' : Bytes) → Adds b c new → rest ≡ new ++ rest' → Written a c whole rest'
+  more c new rest' p e =
       record {
         text = so.text ++ new;
-        adds = adds-then t u v a b c so.text new so.adds p;
+        adds = adds-then a b c so.text new so.adds p;
         is = append_assoc so.text new rest' ∙ ap (λ k. so.text ++ k) (sym e) ∙ so.is;
       }
 
-  pub done : rest ≡ [] → Adds t u a b whole
+  pub done : rest ≡ [] → Adds a b whole
   done e = rw (ap (λ k. so.text ++ k) (sym e) ∙ so.is) at (rw (sym (append-nil so.text)) at so.adds)
 
-  pub ended : (v : Bool) (c : Option Bytes) → Adds u v b c rest → Adds t v a c whole
-  ended v c p = rw so.is at (adds-then t u v a b c so.text rest so.adds p)
+  pub ended : (c : Taken) → Adds b c rest → Adds a c whole
+  ended c p = rw so.is at (adds-then a b c so.text rest so.adds p)

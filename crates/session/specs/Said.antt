@@ -1,9 +1,7 @@
--- What the session program's functions leave: the text of a line, put into bytes; and what its calls leave of a lift. Assumes
--- nothing.
+-- What the session program's functions leave: the text of a line, and what its calls leave of a lift. Assumes nothing.
 use Rattle.std.specs.declared.option.Option.{Option}
 use Rattle.std.specs.Prelude.{Bool, true, ◌&&◌, List, [], ◌∷◌, ◌++◌, ℕ, ◌+◌, ◌*◌, ◌≡◌, leb, length}
 use Rattle.std.specs.Io.KnownBytes.{Appends}
-use Rattle.std.proofs.lemmas.List.Edits.{sets}
 use Rattle.rules.specs.Bytes.{Bytes, ascii}
 use Rattle.rules.specs.Chart.{Chart}
 use Rattle.rules.specs.Accept.{marked}
@@ -16,15 +14,6 @@ use Rattle.rules.specs.Session.{decimal, line, step_line, event_lines}
 abbrev pub longest : ℕ
 longest = (3 + 256) * (20 + 1)
 
--- bytes, and where the text in them ends
-pub record Line : Type 0 where
-  pub bytes : Bytes
-  pub end : ℕ
-
--- a text put at a place, over what stands there
-abbrev pub with_text : Bytes → ℕ → Bytes → Line
-with_text b at text = record { bytes = sets b at text; end = at + length text }
-
 -- a space and a number, for each number
 unfoldable pub spaced : List ℕ → Bytes
 spaced [] = []
@@ -36,12 +25,12 @@ bound_line c = line ((bound_call c).refusal.number ∷ (bound_call c).bound ∷ 
 
 -- a step's line, and what the step left
 pub record Told : Type 0 where
-  pub said : Line
+  pub said : Bytes
   pub board : Board
   pub trace : Bytes
 
-abbrev pub told : Bytes → Answer → Told
-told b a = record { said = with_text b 0 (step_line a); board = a.board; trace = a.trace }
+abbrev pub told : Answer → Told
+told a = record { said = step_line a; board = a.board; trace = a.trace }
 
 -- an event's record comes next, whole
 abbrev pub starts_with_event : Bytes → Bool
@@ -75,6 +64,11 @@ chart_text c board trace events =
     let lines = event_lines c (fresh_call c board 0).board trace events in
     bound_line c ++ (when within 1 11 (bound_call c).refusal.number then [] else lines)
 
--- what takes the texts has taken all of each, and so it had before, and holds another text behind what it held
-abbrev pub Adds : Bool → Bool → Option Bytes → Option Bytes → Bytes → Type 0
-Adds before after a b text = after ≡ true → (before ≡ true) × Appends a b text
+-- what takes the texts: whether it has taken all of each, and what it holds, where that is known
+pub record Taken : Type 0 where
+  pub whole : Bool
+  pub contents : Option Bytes
+
+-- it has taken all of each text, and so it had before, and holds another text behind what it held
+abbrev pub Adds : Taken → Taken → Bytes → Type 0
+Adds before after text = after.whole ≡ true → (before.whole ≡ true) × Appends before.contents after.contents text

@@ -3,7 +3,7 @@ ghost use Rattle.std.specs.Prelude.{◌≡◌, ◌≤◌, true, length, take, If
 
 use std::io::Read;
 
-// How many bytes came, and whether no read failed.
+// How many bytes came, and whether no read failed. A read that fails leaves what came before it, so this is no Result.
 #[derive(Clone, Copy)]
 pub struct Came {
     pub length: usize,
@@ -17,25 +17,17 @@ pub fn read_full<R: Read>(from: &mut R, bytes: &mut [u8]) -> Came
     ensures all { result.whole ≡ true → IfSome (R.remaining from.old) (λ given. take result.length bytes.new ≡ take (length bytes.new) given) }
 {
     let mut length = 0;
+    let mut whole = true;
+    // How far a read comes is the reader's, so that nothing is counted here.
     while length < bytes.len() {
         match from.read(&mut bytes[length..]) {
-            Ok(0) => {
-                return Came {
-                    length,
-                    whole: true,
-                };
-            }
+            Ok(0) => break,
             Ok(came) => length += came,
             Err(_) => {
-                return Came {
-                    length,
-                    whole: false,
-                };
+                whole = false;
+                break;
             }
         }
     }
-    Came {
-        length,
-        whole: true,
-    }
+    Came { length, whole }
 }

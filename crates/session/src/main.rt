@@ -12,13 +12,13 @@ use rules::items::Item;
 use std::io::{Read, Write};
 
 mod input; // what is read
-mod lines; // numbers as text, in a line
+mod lines; // a line of text
 mod output; // what is written
 mod records; // what a session is made of
 mod saying; // the lines of the calls
 
 fn say_bad<W: Write>(out: &mut Output<W>)
-    ensures { Adds out.old.whole out.new.whole (W.contents out.old.to) (W.contents out.new.to) bad_session }
+    ensures { Adds out.old out.new bad_session }
 {
     out.put(b"bad session\n");
 }
@@ -32,21 +32,17 @@ fn say_events<W: Write>(
     events: &[u8],
 ) -> usize
     ensures leaves { record { board = board.new; trace = trace.new; lines = result } ≡ after_events chart.now board.old trace.old 0 events.now }
-    ensures writes { Adds out.old.whole out.new.whole (W.contents out.old.to) (W.contents out.new.to) (event_lines chart.now board.old trace.old events.now) }
+    ensures writes { Adds out.old out.new (event_lines chart.now board.old trace.old events.now) }
 {
-    let mut line = [0u8; lines::LONGEST];
-    let mut at = 0;
     let mut said: usize = 0;
-    while at < events.len() {
-        let record = &events[at..];
+    for record in events.chunks(records::EVENT) {
         if !records::is_event(record) {
             say_bad(out);
             return said + 1;
         }
-        let length = saying::step(chart, board, trace, record[2], &mut line);
-        out.put(&line[..length]);
+        let line = saying::step(chart, board, trace, record[2]);
+        out.put(line.text());
         said += 1;
-        at += records::EVENT;
     }
     said
 }
@@ -60,11 +56,10 @@ fn say_chart<W: Write>(
     events: &[u8],
 ) -> usize
     ensures leaves { record { board = board.new; trace = trace.new; lines = result } ≡ after_chart chart.now board.old trace.old events.now }
-    ensures writes { Adds out.old.whole out.new.whole (W.contents out.old.to) (W.contents out.new.to) (chart_text chart.now board.old trace.old events.now) }
+    ensures writes { Adds out.old out.new (chart_text chart.now board.old trace.old events.now) }
 {
-    let mut line = [0u8; lines::LONGEST];
-    let said = saying::bound(chart, &mut line);
-    out.put(&line[..said.length]);
+    let said = saying::bound(chart);
+    out.put(said.line.text());
     if !said.more {
         return 0;
     }
@@ -74,8 +69,8 @@ fn say_chart<W: Write>(
 
 // A session is read, and what it says is written; whether no read failed.
 fn say_session<R: Read, W: Write>(from: &mut R, out: &mut Output<W>) -> bool
-    ensures all { result ≡ true → IfSome (R.remaining from.old) (λ given. Adds out.old.whole out.new.whole (W.contents out.old.to) (W.contents out.new.to) (session given)) }
-    ensures some { IfSome (R.remaining from.old) (λ given. (n : ℕ) × Adds out.old.whole out.new.whole (W.contents out.old.to) (W.contents out.new.to) (session (take n given))) }
+    ensures all { result ≡ true → IfSome (R.remaining from.old) (λ given. Adds out.old out.new (session given)) }
+    ensures some { IfSome (R.remaining from.old) (λ given. (n : ℕ) × Adds out.old out.new (session (take n given))) }
 {
     let mut bytes = [0u8; records::MOST + 1]; // a byte more, to see that there is more
     let came = input::read_full(from, &mut bytes);
@@ -99,9 +94,6 @@ fn say_session<R: Read, W: Write>(from: &mut R, out: &mut Output<W>) -> bool
 
 // Where a read fails, what came is taken for all, and where a line is not taken, the next ones follow: what is printed tells.
 fn main(rt: HostRuntime) {
-    let mut out = Output {
-        to: rt.stdout(),
-        whole: true,
-    };
+    let mut out = Output::new(rt.stdout());
     let _whole = say_session(&mut rt.stdin(), &mut out);
 }

@@ -4,6 +4,8 @@ ghost use Rattle.rules.specs.Bytes.{field};
 ghost use Rattle.rules.specs.Session.{is_bad};
 ghost use Rattle.session.specs.Said.{starts_with_event};
 
+use fields::Field;
+
 // The bytes of the longest session.
 pub const MOST: usize = 16384;
 
@@ -17,21 +19,21 @@ pub const EVENT: usize = 3;
 pub fn chart_end(session: &[u8]) -> usize
     ensures { result ≡ 4 + field 2 session.now 2 }
 {
-    CHART + fields::u16_at(session, 2) as usize
+    CHART + u16::at(session, 2) as usize
 }
 
 // Too long, without its mark, or without its whole chart.
+#[tactic(auto, unfolding(rules::specs::Session::is_bad, rules::specs::Accept::marked, rules::specs::Bytes::ascii))]
 pub fn is_bad(session: &[u8]) -> bool
     ensures { result ≡ is_bad session.now }
 {
-    let marked = (fields::u8_at(session, 0) == b'S') & (fields::u8_at(session, 1) == b'E');
-    (MOST < session.len()) | !marked | (session.len() < chart_end(session))
+    MOST < session.len() || !session.starts_with(b"SE") || session.len() < chart_end(session)
 }
 
 // Whether an event's record comes next, whole.
+#[tactic(auto, unfolding(rules::specs::Accept::marked, rules::specs::Bytes::ascii))]
 pub fn is_event(events: &[u8]) -> bool
     ensures { result ≡ starts_with_event events.now }
 {
-    let marked = (fields::u8_at(events, 0) == b'E') & (fields::u8_at(events, 1) == b'V');
-    (EVENT <= events.len()) & marked
+    EVENT <= events.len() && events.starts_with(b"EV")
 }

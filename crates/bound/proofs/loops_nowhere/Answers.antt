@@ -1,19 +1,15 @@
--- The loop's invariant: the junctions from here on decide as much as all of them. The measure is how many are left.
--- Assumes nothing.
-use mathlib.Core.Path.{sym, ap, ◌∙◌}
-use mathlib.Core.Bool as B
-use Rattle.chart.proofs.Ranges.{every-fail, every-pass, every-end}
-use Rattle.bound.proofs.Told.{from-first-junction}
+-- The chain's answer is the test of every junction. Assumes nothing.
+use mathlib.Core.Path.{refl, ap, ◌∙◌}
+use native.Mathlib.Omega.{arith}
+use Rattle.std.proofs.Common.{rules, tests}
+use Rattle.std.proofs.lemmas.Iterator.{YieldsList-from_range}
+use Rattle.std.proofs.lemmas.Iterator.Search.{all_from_yields_List}
+use Rattle.rules.specs.declared.headers.Header.{Header}
+use Rattle.bound.proofs.Told.{loops_not, every-range}
 use Rattle.bound.proofs.loops_nowhere.Goals as goal
 
-pub loop-j-init : goal.loop-j-init
-loop-j-init c = from-first-junction c.args.chart.now c.requires
-
-pub returns-then-loops : goal.returns-then-loops
-returns-then-loops c = sym (c.loop-j.invariant ∙ every-fail _ c.loop-j.j c.args.h.junctions c.loop-j-test.true (sym (ap B.not c.loops.ensures) ∙ ap B.not c.if-loops.true))
-
-pub loop-j-preserved : goal.loop-j-preserved
-loop-j-preserved c = c.loop-j.invariant ∙ every-pass _ c.loop-j.j c.args.h.junctions c.loop-j-test.true (sym (ap B.not c.loops.ensures) ∙ ap B.not c.if-loops.false)
-
 pub returns : goal.returns
-returns c = sym (c.loop-j.invariant ∙ every-end _ c.loop-j.j c.args.h.junctions c.loop-j-test.false)
+returns c =
+    all_from_yields_List (loops_not c.args.chart.now) _ _ c.all.result c.all.ensures.ran
+    (YieldsList-from_range 0 _ c.header.result.junctions refl (omega arith)) (λ x b q k. search (rules, tests))
+    ∙ every-range (loops_not c.args.chart.now) (ap (λ (h : Header). h.junctions) c.header.ensures)

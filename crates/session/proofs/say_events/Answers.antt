@@ -1,48 +1,55 @@
--- The loop's invariant: what the events from here on leave, of the board and the trace as they are, is what they all leave of
--- the first; and what was written, with the lines of the events from here on, is the whole. The lent bytes keep their sizes, so
--- each line ends within its bytes; an event's record is whole. Assumes nothing.
-use mathlib.Core.Path.{refl, sym, ◌∙◌}
+-- Each record is a turn by its event's step, and another record, or the end, is the last. Assumes nothing.
+use mathlib.Core.Path.{◌∙◌}
 use native.Mathlib.Omega.{arith}
-use lib.Seq.{length-take-le}
 use Rattle.std.proofs.Common.{rules}
-use Rattle.session.proofs.Order.{record-within, turn, turned-away, all_told, lines-turn, lines-away, lines-all}
-use Rattle.session.proofs.Answers.{step-within, step-size, step-text}
-use Rattle.session.proofs.Written.{begun, more, done, ended}
+use Rattle.std.specs.Slice.Iter.{chunks_rest}
+use Rattle.session.proofs.Order.{Cut, fewer, turn, turned-away, all_told, lines-turn, lines-away, lines-all}
+use Rattle.session.proofs.Written.{more, done, ended}
+use Rattle.session.proofs.say_events.Given.{Over}
 use Rattle.session.proofs.say_events.Goals as goal
+use Rattle.session.proofs.say_events.Goals.{In-Some}
 
-pub loop-at-init : goal.loop-at-init
-loop-at-init g c = (search rules, search rules, search rules, search rules, search rules, refl, begun _ _ _)
+-- the record, and the events behind it
+
+cut : (g : Over) (c : In-Some g) → Cut (chunks_rest c.loop-record.record-iterator) c.in-Some.record.now (chunks_rest c.next.new.self)
+cut g c =
+    let (parts, size, some) = c.in-Some.ensures.steps.1 in
+    record { parts = parts; size = rw c.loop-record.invariant.size at size; some = some }
 
 pub returns-then-not-is_event-clause-leaves : goal.returns-then-not-is_event-clause-leaves
 returns-then-not-is_event-clause-leaves g c =
-    turned-away c.args.chart.now c.args.events.now c.loop-at.at c.loop-at.board c.loop-at.trace c.loop-at.said c.is_event.ensures c.if-not-is_event.true c.loop-at-test.true ∙ c.loop-at.invariant.5
+    let here = cut g (goal.at.returns-then-not-is_event-clause-leaves g c).In-Some in
+    turned-away c.args.chart.now c.loop-record.board c.loop-record.trace c.loop-record.said here c.is_event.ensures c.if-not-is_event.true
+    ∙ c.loop-record.invariant.leaves
 
 pub returns-then-not-is_event-clause-writes : goal.returns-then-not-is_event-clause-writes
 returns-then-not-is_event-clause-writes g c =
-    let last = lines-away c.args.chart.now c.args.events.now c.loop-at.at c.loop-at.board c.loop-at.trace c.is_event.ensures c.if-not-is_event.true c.loop-at-test.true in
-    ended c.loop-at.invariant.6 _ _ (rw (← last) at c.say_bad.ensures)
+    let here = cut g (goal.at.returns-then-not-is_event-clause-writes g c).In-Some in
+    let last = lines-away c.args.chart.now c.loop-record.board c.loop-record.trace c.loop-record.said here c.is_event.ensures c.if-not-is_event.true in
+    ended c.loop-record.invariant.writes _ (rw (← last) at c.say_bad.ensures)
 
-pub slice_bounds-line-end : goal.slice_bounds-line-end
-slice_bounds-line-end g c = step-within _ _ _ _ _ _ _ c.step-length.ensures c.loop-at.invariant.4
-
-pub slice_bounds-put-end : goal.slice_bounds-put-end
-slice_bounds-put-end g c = sym (length-take-le _ _ (step-within _ _ _ _ _ _ _ c.step-length.ensures c.loop-at.invariant.4))
-
-pub loop-at-preserved : goal.loop-at-preserved
-loop-at-preserved g c =
-    let text = step-text _ _ _ _ _ _ _ c.step-length.ensures c.loop-at.invariant.4 in (
-      record-within c.args.events.now c.loop-at.at c.is_event.ensures c.if-not-is_event.false,
-      omega (arith, c.loop-at.invariant.1),
-      search rules,
-      search rules,
-      step-size _ _ _ _ _ _ _ c.step-length.ensures ∙ c.loop-at.invariant.4,
-      turn c.args.chart.now c.args.events.now c.loop-at.at c.loop-at.board c.loop-at.trace c.loop-at.said c.is_event.ensures c.if-not-is_event.false _ c.step-length.ensures ∙ c.loop-at.invariant.5,
-      more c.loop-at.invariant.6 _ _ _ _ (rw text at c.put.ensures)
-          (lines-turn c.args.chart.now c.args.events.now c.loop-at.at c.loop-at.board c.loop-at.trace c.is_event.ensures c.if-not-is_event.false _ c.step-length.ensures),
-    )
+pub loop-record-preserved : goal.loop-record-preserved
+loop-record-preserved g c =
+    let here = cut g (goal.at.loop-record-preserved g c).In-Some in
+    record {
+      can = search rules;
+      ends = tt;
+      size = c.in-Some.ensures.steps.0 ∙ c.loop-record.invariant.size;
+      few = omega (arith, c.loop-record.invariant.few, fewer here);
+      leaves =
+          turn c.args.chart.now c.loop-record.board c.loop-record.trace c.loop-record.said here c.is_event.ensures c.if-not-is_event.false c.step-line.ensures
+          ∙ c.loop-record.invariant.leaves;
+      writes =
+          more c.loop-record.invariant.writes _ _ _ (rw c.text.ensures at c.put.ensures)
+          (lines-turn c.args.chart.now c.loop-record.board c.loop-record.trace c.loop-record.said here c.is_event.ensures c.if-not-is_event.false c.step-line.ensures);
+    }
 
 pub returns-clause-leaves : goal.returns-clause-leaves
-returns-clause-leaves g c = all_told c.args.chart.now c.args.events.now c.loop-at.at c.loop-at.board c.loop-at.trace c.loop-at.said c.loop-at-test.false ∙ c.loop-at.invariant.5
+returns-clause-leaves g c =
+    all_told c.args.chart.now c.loop-record.board c.loop-record.trace c.loop-record.said _ c.in-None.ensures.steps.1.0
+    ∙ c.loop-record.invariant.leaves
 
 pub returns-clause-writes : goal.returns-clause-writes
-returns-clause-writes g c = done c.loop-at.invariant.6 (lines-all c.args.chart.now c.args.events.now c.loop-at.at c.loop-at.board c.loop-at.trace c.loop-at-test.false)
+returns-clause-writes g c =
+    done c.loop-record.invariant.writes
+    (lines-all c.args.chart.now c.loop-record.board c.loop-record.trace c.loop-record.said _ c.in-None.ensures.steps.1.0)

@@ -1,11 +1,9 @@
 -- A unit is paid or not; then the instruction. Assumes nothing.
-use mathlib.Core.Path.{◌∙◌}
-use Rattle.doing.proofs.Laws.{went_on, was-refused}
 use Rattle.blocks.proofs.Performing.{unpaid, paid-for}
 use Rattle.blocks.proofs.action.paid.Goals as goal
 
-pub returns-in-Refused : goal.returns-in-Refused
-returns-in-Refused c = unpaid _ _ _ (was-refused c.args.image.now c.args.trace.now _ (c.pay-paid.ensures c.args.image.now c.args.trace.now) c.in-Refused.is)
+pub returns-in_err-pay : goal.returns-in_err-pay
+returns-in_err-pay c = unpaid _ _ _ _ c.pay.ensures.came c.in_err-pay.was _ c.from_residual.ensures.1
 
-pub returns-in-Went : goal.returns-in-Went
-returns-in-Went c = c.perform.ensures ∙ paid-for _ _ _ (went_on c.args.image.now c.args.trace.now _ (c.pay-paid.ensures c.args.image.now c.args.trace.now) c.in-Went.is)
+pub returns : goal.returns
+returns c = paid-for _ _ _ _ c.pay.ensures.came c.in_ok-pay.was c.perform.ensures

@@ -1,28 +1,22 @@
 -- The two values of the stack are combined: the answer goes onto the rest, or is outside. Assumes nothing.
 use mir.Syntax.{w32}
 use mir.ValLaws.{to_z-of_z}
-use mathlib.Core.Path.{◌≡◌, sym, ap, ◌∙◌}
-use Rattle.rules.specs.Block.{lower, top}
-use Rattle.blocks.specs.Values.{combined}
-use Rattle.rules.specs.Doing.{refused}
-use Rattle.blocks.specs.Stacks.{stack_of}
+use mathlib.Core.Path.{◌∙◌}
 use Rattle.blocks.proofs.Instructing.{binary-is, binary-outside}
 use borrow.Author.Rules.{rules}
 use Rattle.blocks.proofs.instruct.binary.Goals as goal
 
-pub returns-in-Is : goal.returns-in-Is
-returns-in-Is c =
-    -- the values that are combined are those of the stack
-    let st = stack_of c.args.cells.now c.args.taken in
-    let as_the_rules : c.combine-answer.result ≡ combined c.args.op (lower st) (top st) =
-    rw (sym (to_z-of_z w32 c.lower.result (search rules) ∙ c.lower.ensures), sym (to_z-of_z w32 c.top.result (search rules) ∙ c.top.ensures)) c.combine-answer.ensures
-    in
-    λ im tr i. rw (to_z-of_z w32 c.in-Is.value (search rules)) at (c.gives.ensures im tr) ∙ binary-is c.args.op i (stack_of c.args.cells.now c.args.taken) _ as_the_rules _ _ c.in-Is.is (c.without_two.ensures.1 c.args.cells.now)
+pub returns-in_err-value : goal.returns-in_err-value
+returns-in_err-value c = λ n i.
+    binary-outside c.args.op i _ n
+    (to_z-of_z w32 c.pop-top.result (search rules) ∙ c.pop-top.ensures.value) c.pop-top.ensures.rest
+    (to_z-of_z w32 c.pop-lower.result (search rules) ∙ c.pop-lower.ensures.value) c.pop-lower.ensures.rest
+    c.combine.ensures c.ok_or.ensures.ok_part c.in_err-value.was c.ok_or.ensures.value _ _ c.from_residual.ensures.1
 
-pub returns-in-Outside : goal.returns-in-Outside
-returns-in-Outside c =
-    let st = stack_of c.args.cells.now c.args.taken in
-    let as_the_rules : c.combine-answer.result ≡ combined c.args.op (lower st) (top st) =
-    rw (sym (to_z-of_z w32 c.lower.result (search rules) ∙ c.lower.ensures), sym (to_z-of_z w32 c.top.result (search rules) ∙ c.top.ensures)) c.combine-answer.ensures
-    in
-    λ im tr i. ap refused c.because.ensures ∙ binary-outside c.args.op i (stack_of c.args.cells.now c.args.taken) _ as_the_rules c.in-Outside.is
+pub returns : goal.returns
+returns c = λ n i.
+    binary-is c.args.op i _ n
+    (to_z-of_z w32 c.pop-top.result (search rules) ∙ c.pop-top.ensures.value) c.pop-top.ensures.rest
+    (to_z-of_z w32 c.pop-lower.result (search rules) ∙ c.pop-lower.ensures.value) c.pop-lower.ensures.rest
+    c.combine.ensures c.ok_or.ensures.ok_part c.in_ok-value.was
+    (rw (to_z-of_z w32 c.in_ok-value.value (search rules)) at c.push.ensures)

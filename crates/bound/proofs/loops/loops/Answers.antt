@@ -1,23 +1,33 @@
--- The loop's invariant: the flags are a list's, and what is to reach from there decides. The measure is how many segments
--- are left. Assumes nothing.
-use mathlib.Core.Path.{refl, sym, ◌∙◌}
+-- Each exit by what is to reach from the list that the flags are of. Assumes nothing.
+use mathlib.Core.Path.{sym, ap}
 use native.Mathlib.Omega.{arith}
-use lib.ListN.{replicate, length-set}
-use borrow.Author.Rules.{rules}
-use Rattle.bound.proofs.Reaching.{led-start, led-nowhere, led-back, led-out, led_on}
+use Rattle.rules.specs.declared.headers.Header.{Header}
+use Rattle.bound.proofs.Reaching.{led-start, led-nowhere, led-back, led-out, led_on-from}
 use Rattle.bound.proofs.loops.loops.Goals as goal
 
-pub loop-h-init : goal.loop-h-init
-loop-h-init c = (length-set (replicate 256 0) c.args.j.0 1, refl, led-start c.args.chart.now c.args.j.0 (omega arith) c.requires refl)
+pub loop-init : goal.loop-init
+loop-init c =
+    led-start c.args.chart.now c.args.j.0 (omega arith)
+    (omega (arith, ap (λ (h : Header). h.junctions) c.header-junctions.ensures))
 
-pub returns-then-not-onward : goal.returns-then-not-onward
-returns-then-not-onward c = sym (led-nowhere c.args.chart.now c.args.j.0 (omega arith) (λ i. omega (arith, c.type_inv.chart i)) c.loop-h.invariant.2 (sym c.onward.ensures.1 ∙ c.if-not-onward.true))
+pub returns-in_default : goal.returns-in_default
+returns-in_default c =
+    let small = rw c.bytes.ensures at c.know_bytes.ensures in
+    sym (led-nowhere c.args.chart.now c.args.j.0 (omega arith) small c.loop.invariant c.onward.ensures c.in_default.is)
 
-pub returns-then-there-j-eq-FLAG : goal.returns-then-there-j-eq-FLAG
-returns-then-there-j-eq-FLAG c = sym (led-back c.args.chart.now c.args.j.0 (omega arith) (λ i. omega (arith, c.type_inv.chart i)) c.loop-h.invariant.2 c.onward.ensures.0 c.if-there-j-eq-FLAG.true)
+pub returns-then-there-j : goal.returns-then-there-j
+returns-then-there-j c =
+    let small = rw c.bytes.ensures at c.know_bytes.ensures in
+    sym (led-back c.args.chart.now c.args.j.0 (omega arith) small c.loop.invariant c.onward.ensures c.in-Some.is c.if-there-j.true)
 
-pub returns-then-left-eq0 : goal.returns-then-left-eq0
-returns-then-left-eq0 c = sym (led-out c.args.chart.now c.args.j.0 (omega arith) (λ i. omega (arith, c.type_inv.chart i)) c.loop-h.invariant.2 c.onward.ensures.0 c.if-there-j-eq-FLAG.false c.if-left-eq0.true)
+pub loop-preserved : goal.loop-preserved
+loop-preserved c =
+    let small = rw c.bytes.ensures at c.know_bytes.ensures in
+    led_on-from c.args.chart.now c.args.j.0 (omega arith) small c.loop.invariant c.onward.ensures c.in-Some.is c.if-there-j.false
+    (omega arith)
 
-pub loop-h-preserved : goal.loop-h-preserved
-loop-h-preserved c = (search rules, search rules, led_on c.args.chart.now c.args.j.0 (omega arith) (λ i. omega (arith, c.type_inv.chart i)) c.loop-h.invariant.2 c.onward.ensures.0 c.if-there-j-eq-FLAG.false c.if-left-eq0.false c.copy.ensures)
+pub returns-else-there-j : goal.returns-else-there-j
+returns-else-there-j c =
+    let small = rw c.bytes.ensures at c.know_bytes.ensures in
+    sym (led-out c.args.chart.now c.args.j.0 (omega arith) small c.loop.invariant c.onward.ensures c.in-Some.is c.if-there-j.false
+    (omega arith))

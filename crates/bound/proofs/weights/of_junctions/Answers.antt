@@ -1,19 +1,14 @@
--- The loop's invariant: the sums go as many segments far as there were rounds. The measure is how many are left.
--- Assumes nothing.
-use mathlib.Core.Path.{refl, sym, ◌∙◌}
-use native.Mathlib.Omega.{arith}
-use lib.ListN.{length}
+-- Each round goes a segment further. Assumes nothing.
+use mathlib.Core.Path.{ap}
+use Rattle.rules.specs.declared.headers.Header.{Header}
 use Rattle.bound.proofs.Weighing.{rounds-none, rounds-more, rounds-all}
 use Rattle.bound.proofs.weights.of_junctions.Goals as goal
 
 pub loop-init : goal.loop-init
-loop-init c = rounds-none (length c.args.sums.now) c.requires.1 c.clear.ensures refl
+loop-init c = rounds-none
 
 pub loop-preserved : goal.loop-preserved
-loop-preserved c = rounds-more c.loop.invariant c.loop-test.true (λ i. omega (arith, c.type_inv.chart i)) c.copy.ensures c.round.ensures
-
-pub shape_of-sums : goal.shape_of-sums
-shape_of-sums c = c.loop.invariant.size ∙ sym c.requires.1
+loop-preserved c = rounds-more c.loop.invariant (rw c.bytes.ensures at c.know_bytes.ensures) c.round-sums.ensures
 
 pub returns : goal.returns
-returns c = rounds-all c.loop.invariant c.loop-test.false c.requires.0 refl
+returns c = rounds-all c.loop.invariant c.loop.auto.counter-end c.loop-test.false (ap (λ (h : Header). h.junctions) c.header-end.ensures)

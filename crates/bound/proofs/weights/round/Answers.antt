@@ -1,23 +1,25 @@
--- The loop's invariant: the table has the sums of the segments passed. The measure is how many are left. Assumes nothing.
-use mathlib.Core.Path.{refl, sym, ◌∙◌}
+-- A segment that starts at a junction adds to that one's sum. Assumes nothing.
+use mathlib.Core.Path.{ap}
 use native.Mathlib.Omega.{arith}
-use lib.ListN.{length}
+use Rattle.std.proofs.Common.{rules}
+use Rattle.rules.specs.declared.headers.Header.{Header}
 use Rattle.bound.proofs.Starting.{starts-on, starts-elsewhere}
 use Rattle.bound.proofs.Weighing.{round-none, round-more, round_same, round-all}
 use Rattle.bound.proofs.weights.round.Goals as goal
-use Rattle.bound.proofs.weights.round.Goals.{in-Junction, in_default}
+use Rattle.bound.proofs.weights.round.Goals.{in-Some-Junction, in-Some+in-Outer-1, in-None-1}
 
 pub loop-n-init : goal.loop-n-init
-loop-n-init c = round-none (length c.args.sums.now) c.requires.2 c.clear.ensures
+loop-n-init c = round-none
 
 pub loop-n-preserved : goal.loop-n-preserved
-loop-n-preserved c = elim c.match-source.branch [
-  | in-Junction w ↦ round-more c.loop-n.invariant c.loop-n-test.true w.in-Junction.j.0 (omega arith) (starts-on c.args.chart.now c.loop-n.n c.requires.0 c.source_of-source.ensures w.in-Junction.is) w.weight.ensures w.plus.ensures w.sums-is
-  | in_default w ↦ round_same c.loop-n.invariant c.loop-n-test.true (starts-elsewhere c.args.chart.now c.loop-n.n c.requires.0 c.source_of-source.ensures w.in_default.not-Junction) w.sums-is
-]
-
-pub shape_of-sums : goal.shape_of-sums
-shape_of-sums c = c.loop-n.invariant.size ∙ sym c.requires.2
+loop-n-preserved c =
+    let elsewhere = starts-elsewhere c.args.chart.now c.loop-n.n c.source.ensures in
+    elim c.match-source.branch [
+      | in-Some-Junction w ↦ let here = starts-on c.args.chart.now c.loop-n.n c.source.ensures w.in-Some-Junction.is w.in-Some-Junction.field-0-is in
+          round-more c.loop-n.invariant (omega arith) here w.weight.ensures w.plus.ensures w.sums-is
+      | in-Some+in-Outer-1 w ↦ round_same c.loop-n.invariant (elsewhere (λ j e. search rules)) w.sums-is
+      | in-None-1 w ↦ round_same c.loop-n.invariant (elsewhere (λ j e. search rules)) w.sums-is
+    ]
 
 pub returns : goal.returns
-returns c = round-all c.loop-n.invariant c.loop-n-test.false c.requires.0 refl
+returns c = round-all c.loop-n.invariant c.loop-n.auto.n-end c.loop-n-test.false (ap (λ (h : Header). h.segments) c.header-n-end.ensures)

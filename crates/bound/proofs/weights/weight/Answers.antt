@@ -1,10 +1,15 @@
 -- The segment's own count, and where it ends on a junction that junction's sum too. Assumes nothing.
 use native.Mathlib.Omega.{arith}
-use Rattle.bound.proofs.Starting.{weighed-there, weighed-on}
+use Rattle.bound.proofs.Starting.{ends-there, ends-on, weighed-there, weighed-on}
 use Rattle.bound.proofs.weights.weight.Goals as goal
 
-pub returns-then-ends_on_state : goal.returns-then-ends_on_state
-returns-then-ends_on_state c = weighed-there c.args.chart.now c.args.t.0 c.requires.0 c.condition-tested.ensures c.condition_action-acted.ensures c.ends_on_state.ensures c.args.sums.now (omega arith) (omega arith) c.if-ends_on_state.true
+pub returns-in-State : goal.returns-in-State
+returns-in-State c =
+    let on = ends-there c.args.chart.now c.args.t.0 c.end.ensures c.in-State.is in
+    weighed-there c.args.chart.now c.args.t.0 c.condition-tested.ensures c.condition_action-acted.ensures c.args.sums.now
+    (omega arith) (omega arith) on
 
-pub returns : goal.returns
-returns c = weighed-on c.args.chart.now c.args.t.0 c.requires.0 c.condition-tested.ensures c.condition_action-acted.ensures c.ends_on_state.ensures c.args.sums.now c.if-ends_on_state.false c.end_junction.ensures c.plus.ensures
+pub returns-in-Junction : goal.returns-in-Junction
+returns-in-Junction c =
+    let on = ends-on c.args.chart.now c.args.t.0 c.end.ensures c.in-Junction.is in
+    weighed-on c.args.chart.now c.args.t.0 c.condition-tested.ensures c.condition_action-acted.ensures c.args.sums.now on c.plus.ensures

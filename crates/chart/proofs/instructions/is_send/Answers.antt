@@ -3,4 +3,4 @@ use Rattle.chart.proofs.Sends.{send-number}
 use Rattle.chart.proofs.instructions.is_send.Goals as goal
 
 pub returns : goal.returns
-returns c = rw c.u8_at.ensures (send-number _)
+returns c = rw c.at.ensures (send-number _)

@@ -6,4 +6,4 @@ use Rattle.chart.proofs.Sends.{send-state}
 use Rattle.chart.proofs.instructions.state_at.Goals as goal
 
 pub returns : goal.returns
-returns c = c.u8_at.ensures ∙ send-state c.args.bytes.now (c.args.place + 4) (λ k. omega (arith, c.type_inv.bytes k))
+returns c = c.at.ensures ∙ send-state c.args.bytes.now (c.args.place + 4) (λ k. omega (arith, c.type_inv.bytes k))

@@ -9,6 +9,3 @@ use Rattle.chart.proofs.segments.after.Goals as goal
 pub returns-then-h-t : goal.returns-then-h-t
 unfolding starting_from
 returns-then-h-t c = no-segment _ (c.args.t.0 + 1) c.args.h.segments refl (omega (arith, c.if-h-t.true))
-
-pub returns : goal.returns
-returns c = rw c.start_of-start.ensures at c.starting.ensures

@@ -10,5 +10,5 @@ use Rattle.chart.proofs.tree.is_child.Goals as goal
 pub returns : goal.returns
 unfolding children_from
 returns c = let a = c.args in
-    rw c.parent.ensures
+    rw (c.eq.ensures, c.parent.ensures)
     (sym (is-in-kept-range (λ s. eqb (parent a.chart.now s) a.p.0) a.s.0 1 a.h.states))

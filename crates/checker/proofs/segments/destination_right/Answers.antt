@@ -2,11 +2,11 @@
 use Rattle.checker.proofs.Ends.{by-destination}
 use Rattle.checker.proofs.segments.destination_right.Goals as goal
 
-pub returns-in-State : goal.returns-in-State
-returns-in-State c = by-destination c.args.chart.now c.args.t.0 c.requires c.destination_of.ensures (rw c.in-State.is c.state_end.ensures)
+pub returns-in-Some-State : goal.returns-in-Some-State
+returns-in-Some-State c = by-destination _ _ c.destination.ensures (rw (c.in-Some-State.is, c.in-Some-State.field-0-is) c.state_end.ensures)
 
-pub returns-in-Junction : goal.returns-in-Junction
-returns-in-Junction c = by-destination c.args.chart.now c.args.t.0 c.requires c.destination_of.ensures (rw c.in-Junction.is c.junction_end.ensures)
+pub returns-in-Some-Junction : goal.returns-in-Some-Junction
+returns-in-Some-Junction c = by-destination _ _ c.destination.ensures (rw (c.in-Some-Junction.is, c.in-Some-Junction.field-0-is) c.junction_end.ensures)
 
-pub returns-in-Unknown : goal.returns-in-Unknown
-returns-in-Unknown c = by-destination c.args.chart.now c.args.t.0 c.requires c.destination_of.ensures (rw c.in-Unknown.is)
+pub returns-in-None : goal.returns-in-None
+returns-in-None c = by-destination _ _ c.destination.ensures (rw c.in-None.is)

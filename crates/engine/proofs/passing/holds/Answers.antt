@@ -1,29 +1,23 @@
--- The condition's part of a chart has its instructions; it holds by the top of the stack that they leave. Assumes nothing.
+-- A condition is empty, or its block's answer is that of all, or the top of the stack that the block leaves. Assumes nothing.
 use mathlib.Core.Path.{◌∙◌}
-use borrow.Author.Rules.{rules}
-use mir.Syntax.{w32}
-use mir.ValLaws.{to_z-of_z}
-use Rattle.doing.specs.Held.{now_of}
-use Rattle.blocks.specs.Code.{code_in}
-use Rattle.blocks.proofs.Performing.{run-held}
-use Rattle.engine.proofs.Sending.{holds-empty, holds-refused, holds-top}
+use Rattle.rules.specs.Block.{unless_abandoned}
+use Rattle.rules.specs.Doing.{give}
+use Rattle.blocks.proofs.Arithmetic.{zero_bits}
+use Rattle.engine.proofs.Telling.{ran-refused, ran-next}
+use Rattle.engine.proofs.Holding.{top_tested, holds-empty, holds-tested}
 use Rattle.engine.proofs.passing.holds.Goals as goal
 
-pub returns-then-block-eq0 : goal.returns-then-block-eq0
-returns-then-block-eq0 c = holds-empty c.args.chart.now (now_of c.args.image.now c.args.trace.now c.args.counts) c.args.h c.requires c.args.t.0 c.condition-block.result c.condition-block.ensures c.if-block-eq0.true
+pub returns-then-condition-eq0 : goal.returns-then-condition-eq0
+returns-then-condition-eq0 c = holds-empty _ _ _ c.condition-condition.ensures _ c.if-condition-eq0.true
 
-pub top-requires : goal.top-requires
-top-requires c = run-held (code_in c.of_block-part.result.now 0 c.condition-block.result.count) c.run-performed.new.cells c.in-Ran.left.taken (now_of c.args.image.now c.args.trace.now c.args.counts) (search rules)
-    (rw c.in-Ran.is at c.run-performed.ensures)
+pub returns-in_err-run : goal.returns-in_err-run
+returns-in_err-run c =
+    ran-refused _ _ top_tested (rw c.new-stack.ensures at c.run.ensures) c.in_err-run.was _ _ c.from_residual.ensures.1
+    ∙ holds-tested _ _ _ c.condition-condition.ensures _ c.if-condition-eq0.false _ c.code.ensures
 
-pub returns-in-Refused : goal.returns-in-Refused
-returns-in-Refused c = holds-refused c.args.chart.now (now_of c.args.image.now c.args.trace.now c.args.counts) c.args.h c.requires c.args.t.0 c.condition-block.result c.condition-block.ensures
-    c.if-block-eq0.false c.of_block-part.result.now c.of_block-part.ensures c.run-performed.result c.run-performed.new.cells _ _ c.run-performed.ensures c.in-Refused.is
-
-pub returns-then-is_zero : goal.returns-then-is_zero
-returns-then-is_zero c = rw c.if-is_zero.true at (holds-top c.args.chart.now (now_of c.args.image.now c.args.trace.now c.args.counts) c.args.h c.requires c.args.t.0 c.condition-block.result c.condition-block.ensures
-    c.if-block-eq0.false c.of_block-part.result.now c.of_block-part.ensures c.run-performed.result c.run-performed.new.cells _ _ c.run-performed.ensures c.in-Ran.is (to_z-of_z w32 c.top.result (search rules) ∙ c.top.ensures) c.is_zero.ensures)
-
-pub returns-else-is_zero : goal.returns-else-is_zero
-returns-else-is_zero c = rw c.if-is_zero.false at (holds-top c.args.chart.now (now_of c.args.image.now c.args.trace.now c.args.counts) c.args.h c.requires c.args.t.0 c.condition-block.result c.condition-block.ensures
-    c.if-block-eq0.false c.of_block-part.result.now c.of_block-part.ensures c.run-performed.result c.run-performed.new.cells _ _ c.run-performed.ensures c.in-Ran.is (to_z-of_z w32 c.top.result (search rules) ∙ c.top.ensures) c.is_zero.ensures)
+pub returns : goal.returns
+unfolding unless_abandoned give
+returns c =
+    ran-next _ _ top_tested (rw c.new-stack.ensures at c.run.ensures) c.in_ok-run.was
+    (rw (zero_bits c.top.result (record { sfits = c.top.type_inv }), c.top.ensures))
+    ∙ holds-tested _ _ _ c.condition-condition.ensures _ c.if-condition-eq0.false _ c.code.ensures

@@ -1,22 +1,27 @@
--- `turns::active_child` meets its contract. The loop's invariant: the first active child from the start on is the first
--- from here on. The measure is how many states are left. Assumes nothing.
-use mathlib.Core.Path.{sym, ◌∙◌}
+-- `turns::active_child` meets its contract: by what stands at a number, the first active child from there on is found or
+-- is still to come. Assumes nothing.
+use mathlib.Core.Path.{refl, sym, ◌∙◌}
+use mathlib.Core.Bool.{true, false}
+use Rattle.rules.specs.Lists.{when◌then◌else◌}
 use Rattle.chart.specs.Read.{children_from}
-use Rattle.engine.proofs.Turning.{none-past, found_here, found-later}
+use Rattle.engine.proofs.Turning.{none-past, by-tests}
 use Rattle.engine.proofs.turns.active_child.Goals as goal
+use Rattle.engine.proofs.turns.active_child.Goals.{else-eq-via-then-eq+else-is_active, else-eq-via-else-eq}
 
-pub returns-then-is_active_child : goal.returns-then-is_active_child
-unfolding children_from
-returns-then-is_active_child c = let a = c.args in
-    sym (c.loop-k.invariant ∙ found_here a.chart.now a.image.now a.p.0 _ _ c.loop-k-test.true
-    (sym c.is_active_child.ensures ∙ c.if-is_active_child.true))
+pub returns-then-is_active : goal.returns-then-is_active
+unfolding children_from when◌then◌else◌
+returns-then-is_active c =
+    sym (c.loop-k.invariant ∙ by-tests c.args.chart.now _ _ _ _ c.loop-k-test.true true true (cc) (cc))
 
 pub loop-k-preserved : goal.loop-k-preserved
-loop-k-preserved c = let a = c.args in
-    c.loop-k.invariant ∙ found-later a.chart.now a.image.now a.p.0 _ _ c.loop-k-test.true
-    (sym c.is_active_child.ensures ∙ c.if-is_active_child.false)
+unfolding when◌then◌else◌
+loop-k-preserved c =
+    let tests = by-tests c.args.chart.now c.args.image.now _ _ _ c.loop-k-test.true in
+    elim c.else-eq.branch [
+      | else-eq-via-then-eq+else-is_active w ↦ c.loop-k.invariant ∙ tests true false (cc) (cc)
+      | else-eq-via-else-eq w ↦ c.loop-k.invariant ∙ tests false _ (cc) refl
+    ]
 
 pub returns : goal.returns
 unfolding children_from
-returns c = let a = c.args in
-    sym (c.loop-k.invariant ∙ none-past a.chart.now a.image.now a.p.0 _ _ c.loop-k-test.false)
+returns c = sym (c.loop-k.invariant ∙ none-past c.args.chart.now _ _ _ _ c.loop-k-test.false)

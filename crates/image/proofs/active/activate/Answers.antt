@@ -4,12 +4,12 @@ use Rattle.image.proofs.active.activate.Goals as goal
 
 pub overflow_add-byte : goal.overflow_add-byte
 overflow_add-byte c = let a = c.args in
-    on_fits a.image.now a.s.0 c.place.ensures c.u8_at-byte.ensures c.if-byte-k-ne1.true c.u8_at-byte.type_inv
+    on_fits a.image.now a.s.0 c.place.ensures c.at-byte.ensures c.if-byte-k-ne1.true c.at-byte.type_inv
 
 pub returns-then-byte-k-ne1 : goal.returns-then-byte-k-ne1
 returns-then-byte-k-ne1 c = let a = c.args in
-    on-stored a.image.now a.s.0 c.place.ensures c.u8_at-byte.ensures c.if-byte-k-ne1.true c.u8_at-byte.type_inv c.place-then-byte-k-ne1.ensures
-    c.put_u8.ensures
+    on-stored a.image.now a.s.0 c.place.ensures c.at-byte.ensures c.if-byte-k-ne1.true c.at-byte.type_inv c.place-then-byte-k-ne1.ensures
+    c.put.ensures
 
 pub returns-else-byte-k-ne1 : goal.returns-else-byte-k-ne1
-returns-else-byte-k-ne1 c = let a = c.args in on-kept a.image.now a.s.0 c.place.ensures c.u8_at-byte.ensures c.if-byte-k-ne1.false
+returns-else-byte-k-ne1 c = let a = c.args in on-kept a.image.now a.s.0 c.place.ensures c.at-byte.ensures c.if-byte-k-ne1.false

@@ -6,4 +6,4 @@ use Rattle.image.proofs.history.record_child.Goals as goal
 
 pub returns : goal.returns
 returns c = let a = c.args in
-    rw c.put_u8.ensures (put_one a.image.now (10 + a.p.0) a.s.0 (omega arith))
+    rw c.put.ensures (put_one a.image.now (10 + a.p.0) a.s.0 (omega arith))

@@ -1,16 +1,12 @@
--- The loop's invariant: the test so far is that of the bytes so far. The measure is how many are left. Assumes nothing.
-use mathlib.Core.Path.{refl}
-use native.Mathlib.Omega.{arith}
+-- The test so far is that of the bytes so far. Assumes nothing.
+use mathlib.Core.Path.{◌≡◌, refl, subst}
+use borrow.Author.Rules.{rules}
+use Rattle.std.proofs.lemmas.Fn.{fold_over, slice_gives, fronts}
 use Rattle.rules.specs.Lists.{every}
-use Rattle.image.proofs.Zeros.{one-tested, all_tested}
+use Rattle.image.proofs.Zeros.{is_zero, one-more}
 use Rattle.image.proofs.rest.zeros.Goals as goal
 
-pub loop-i-init : goal.loop-i-init
-unfolding every
-loop-i-init c = (omega arith, refl)
-
-pub loop-i-preserved : goal.loop-i-preserved
-loop-i-preserved c = (omega arith, one-tested c.args.part.now c.loop-i.i c.loop-i-test.true c.loop-i.invariant.1)
-
 pub returns : goal.returns
-returns c = all_tested c.args.part.now c.loop-i.i c.loop-i-test.false c.loop-i.invariant.1
+unfolding every
+returns c = subst (λ l. c.fold.result ≡ every is_zero l) c.iter.ensures.rest
+    (fold_over fronts (λ y. y.now) _ (λ ys zero. zero ≡ every is_zero ys) _ (λ ys a x b f' j k. let more = one-more ys x.now j in search rules) _ _ _ _ (slice_gives c.iter.result) refl c.fold.ensures.ran)

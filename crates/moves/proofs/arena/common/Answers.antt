@@ -1,25 +1,27 @@
--- The loop's invariant: the first that passes of all the lineage is the first of what is left of it. Assumes nothing.
-use mathlib.Core.Path.{sym, ◌∙◌}
-use borrow.Author.Rules.{rules}
-use Rattle.moves.proofs.Follows.{first-none, first-here, first-later}
-use Rattle.moves.proofs.Lowest.{common-of, next-above, none_above}
+-- The loop's invariant: the lowest state from the source is the lowest from here. Assumes nothing.
+use mathlib.Core.Path.{◌≡◌, sym, ◌∙◌}
+use Prim.Native.Nat.{◌+◌, ◌-◌}
+use native.Mathlib.Omega.{arith}
+use borrow.Author.Tests.{eq-eqb, ne_eqb}
+use Rattle.rules.specs.Fire.{levels}
+use Rattle.moves.proofs.Lowest.{climbed-all, climbed-here, climbed-on, common-climbed}
 use Rattle.moves.proofs.arena.common.Goals as goal
-use Rattle.moves.proofs.arena.common.Goals.{then-over+else-over_junctions, else-over}
+use Rattle.moves.proofs.arena.common.Goals.{then-at-eq0-via-then-at-eq0, then-at-eq0-via-else-at-eq0+then-over_all}
 
-pub returns-then-over_junctions : goal.returns-then-over_junctions
-returns-then-over_junctions c = let r = c.lineage-n in
-    first-here _ (common-of c.args.chart.now _ _ _ r.ensures.1 ∙ c.loop-i.invariant)
-    (next-above _ r.result _ (search rules) c.loop-i-test.true)
-    (rw (sym c.over.ensures ∙ c.if-over.true) (sym c.over_junctions.ensures ∙ c.if-over_junctions.true))
+pub loop-init : goal.loop-init
+loop-init c = common-climbed _ _ _ _
 
-pub loop-i-preserved : goal.loop-i-preserved
-loop-i-preserved c = first-later _ c.loop-i.invariant (next-above _ c.lineage-n.result _ (search rules) c.loop-i-test.true)
-    (elim c.if-over.branch [
-      | then-over+else-over_junctions w ↦ rw (sym c.over.ensures ∙ w.if-over.true) (sym w.over_junctions.ensures ∙ w.if-over_junctions.false)
-      | else-over w ↦ rw (sym c.over.ensures ∙ w.if-over.false)
+pub returns-then-at-eq0 : goal.returns-then-at-eq0
+returns-then-at-eq0 c = climbed-here _ _ (levels - c.loop.counter) _ c.loop.invariant (omega arith)
+    (elim c.then-at-eq0.branch [
+      | then-at-eq0-via-then-at-eq0 w ↦ rw (eq-eqb _ _ w.if-at-eq0.true)
+      | then-at-eq0-via-else-at-eq0+then-over_all w ↦ rw (ne_eqb _ _ w.if-at-eq0.false) (sym w.over_all.ensures ∙ w.if-over_all.true)
     ])
 
+pub loop-preserved : goal.loop-preserved
+loop-preserved c = let one : levels - c.loop.counter - 1 ≡ levels - (c.loop.counter + 1) = omega arith in
+    rw (← one) (climbed-on _ _ (levels - c.loop.counter) _ c.loop.invariant (omega arith)
+    (rw (ne_eqb _ _ c.if-at-eq0.false) (sym c.over_all.ensures ∙ c.if-over_all.false)) c.parent-at.ensures)
+
 pub returns : goal.returns
-returns c = let r = c.lineage-n in
-    first-none _ (common-of c.args.chart.now _ _ _ r.ensures.1 ∙ c.loop-i.invariant)
-    (none_above _ r.result _ (search rules) c.loop-i-test.false)
+returns c = climbed-all _ _ (levels - c.loop.counter) _ c.loop.invariant (omega arith)

@@ -1,52 +1,49 @@
 -- `entering::enter` and `entering::enter_children` meet their contracts. The loop's invariant: what is to do for the children
--- from the start is what is to do for those from here on. The measures: the levels left, twice, and how many states are left.
--- Assumes nothing.
-use mathlib.Core.Path.{sym, ◌∙◌}
-use borrow.Author.Rules.{rules}
+-- from the start is what is to do for those from here on. The measures: the levels left, twice. Assumes nothing.
+use mathlib.Core.Path.{sym}
+use Rattle.doing.proofs.Sequels.{refused-ends, went-next}
 use Rattle.rules.specs.Doing.{done, give, ◌>>◌}
 use Rattle.rules.specs.Fire as rules
-use Rattle.moves.proofs.Follows.{refused-ends, went-next, turn-start, turn-done, turn-pass, turn-refused, turn-went}
+use Rattle.moves.proofs.Follows.{turn-start, turn-done, turn-pass, turn-refused, turn-went}
 use Rattle.moves.proofs.Enters.{all_from, none_from, a-child, no-child, enter-some, enter-chosen, enter-each}
 use Rattle.moves.proofs.entering.+enter_enter_children.Goals as goal
-use Rattle.moves.proofs.entering.+enter_enter_children.Goals.{enter_children-then-parent-s+in-Went, enter_children-else-parent-s}
+use Rattle.moves.proofs.entering.+enter_enter_children.Goals.{enter_children-then-eq+in_ok-enter, enter_children-else-eq}
 
 pub enter-returns-then-depth-eq0 : goal.enter-returns-then-depth-eq0
 unfolding rules.enter done give
 enter-returns-then-depth-eq0 t c = rw c.if-depth-eq0.true
 
-pub enter-returns-in_default : goal.enter-returns-in_default
+pub enter-returns-in_err-arrive : goal.enter-returns-in_err-arrive
 unfolding ◌>>◌
-enter-returns-in_default t c = rw (enter-some _ _ _ _ _ c.if-depth-eq0.false) (refused-ends _ _ _ c.arrive-arrived.ensures c.in_default.is)
+enter-returns-in_err-arrive t c = rw (enter-some _ _ _ _ _ c.if-depth-eq0.false)
+    (refused-ends _ _ c.arrive.ensures c.in_err-arrive.was _ _ c.from_residual.ensures.1)
 
 pub enter-returns : goal.enter-returns
 unfolding ◌>>◌
-enter-returns t c = rw (enter-some _ _ _ _ _ c.if-depth-eq0.false) (went-next _ _ _ c.arrive-arrived.ensures c.in-Went.is c.enter_children.ensures)
+enter-returns t c = rw (enter-some _ _ _ _ _ c.if-depth-eq0.false) (went-next _ _ c.arrive.ensures c.in_ok-arrive.was c.enter_children.ensures)
 
 pub enter_children-returns-then-is_one_of : goal.enter_children-returns-then-is_one_of
-enter_children-returns-then-is_one_of t c = enter-chosen _ _ _ _ _ (sym c.is_one_of.ensures ∙ c.if-is_one_of.true) c.chosen-k.ensures
+enter_children-returns-then-is_one_of t c = enter-chosen _ _ _ _ _ (sym c.if-is_one_of.ensures) c.chosen-k.ensures
     c.enter.ensures
 
-pub enter_children-loop-k-init : goal.enter_children-loop-k-init
-enter_children-loop-k-init t c = turn-start (all_from _ _ _ c.requires)
+pub enter_children-loop-n-init : goal.enter_children-loop-n-init
+enter_children-loop-n-init t c = turn-start (all_from _ _ _ c.header-n-end.ensures)
 
-pub enter_children-returns-in_default : goal.enter_children-returns-in_default
-enter_children-returns-in_default t c = enter-each _ _ _ _ _ (sym c.is_one_of.ensures ∙ c.if-is_one_of.false)
-    (turn-refused c.loop-k.invariant (a-child c.args.chart.now _ _ _ c.loop-k-test.true c.parent.ensures c.if-parent-s.true) _ _
-    c.enter-entered.ensures c.in_default.is)
+pub enter_children-returns-in_err-enter : goal.enter_children-returns-in_err-enter
+enter_children-returns-in_err-enter t c = enter-each _ _ _ _ _ (sym c.if-is_one_of.ensures)
+    (turn-refused c.loop-n.invariant (a-child c.args.chart.now _ _ _ c.loop-n-test.true c.parent.ensures (sym c.if-eq.ensures)) _
+    c.enter-then-eq.ensures c.in_err-enter.was _ _ c.from_residual.ensures.1)
 
-pub enter_children-loop-k-preserved : goal.enter_children-loop-k-preserved
-enter_children-loop-k-preserved t c =
-    let chart = c.args.chart.now in
-    elim c.if-parent-s.branch [
-      | enter_children-then-parent-s+in-Went w ↦
-          turn-went c.loop-k.invariant
-          (a-child chart _ _ _ c.loop-k-test.true c.parent.ensures w.if-parent-s.true) _ _ w.enter-entered.ensures w.in-Went.is
-          (search rules) (search rules) w.image-is w.trace-is w.left-is
-      | enter_children-else-parent-s w ↦
-          turn-pass c.loop-k.invariant (rw (no-child chart _ _ _ c.loop-k-test.true c.parent.ensures w.if-parent-s.false))
-          w.image-is w.trace-is w.left-is
+pub enter_children-loop-n-preserved : goal.enter_children-loop-n-preserved
+enter_children-loop-n-preserved t c = let chart = c.args.chart.now in
+    elim c.if-eq.branch [
+      | enter_children-then-eq+in_ok-enter w ↦
+          turn-went c.loop-n.invariant (a-child chart _ _ _ c.loop-n-test.true c.parent.ensures (sym w.if-eq.ensures)) _
+          w.enter-then-eq.ensures w.in_ok-enter.was w.now-is
+      | enter_children-else-eq w ↦
+          turn-pass c.loop-n.invariant (rw (no-child chart _ _ _ c.loop-n-test.true c.parent.ensures (sym w.if-eq.ensures))) w.now-is
     ]
 
 pub enter_children-returns : goal.enter_children-returns
-enter_children-returns t c = enter-each _ _ _ _ _ (sym c.is_one_of.ensures ∙ c.if-is_one_of.false)
-    (turn-done c.loop-k.invariant (none_from c.args.chart.now _ _ _ c.loop-k-test.false))
+enter_children-returns t c = enter-each _ _ _ _ _ (sym c.if-is_one_of.ensures)
+    (turn-done c.loop-n.invariant (none_from c.args.chart.now _ _ _ c.loop-n-test.false))

@@ -1,24 +1,21 @@
 -- `entering::arrive` meets its contract: paid, active, noted, then the entry action. Assumes nothing.
+use mathlib.Core.Path.{refl}
 use Rattle.doing.proofs.Laws.{as-noted}
+use Rattle.doing.proofs.Sequels.{refused-ends, went-next}
 use Rattle.rules.specs.Doing.{◌>>◌, change, state_entered}
 use Rattle.moves.specs.Steps.{arriving}
-use Rattle.moves.proofs.Follows.{refused-ends, went-next}
 use Rattle.moves.proofs.entering.arrive.Goals as goal
 
-pub returns-in_default : goal.returns-in_default
+pub returns-in_err-pay : goal.returns-in_err-pay
 unfolding arriving ◌>>◌
-returns-in_default c = refused-ends _ _ _ (c.pay-paid.ensures _ _) c.in_default.is
+returns-in_err-pay c = (refused-ends _ _ c.pay.ensures.came c.in_err-pay.was _ _ c.from_residual.ensures.1)
 
-pub returns-in_default-noted : goal.returns-in_default-noted
+pub returns-in_err-note : goal.returns-in_err-note
 unfolding arriving ◌>>◌ change
-returns-in_default-noted c = let a = c.args in
-    went-next _ _ _ (c.pay-paid.ensures a.image.now a.trace.now) c.in-Went.is
-    (rw (← c.activate.ensures) (refused-ends _ _ _ (as-noted state_entered _ _ c.entered.ensures (c.note-noted.ensures _)) c.in_default-noted.is))
+returns-in_err-note c = (went-next _ _ c.pay.ensures.came c.in_ok-pay.was (rw (← c.activate.ensures)
+    (refused-ends _ _ (as-noted state_entered _ _ refl c.note.ensures.came) c.in_err-note.was _ _ c.from_residual-in_err-note.ensures.1)))
 
 pub returns : goal.returns
 unfolding arriving ◌>>◌ change
-returns c = let a = c.args in
-    went-next _ _ _ (c.pay-paid.ensures a.image.now a.trace.now) c.in-Went.is
-    (rw (← c.activate.ensures)
-    (went-next _ _ _ (as-noted state_entered _ _ c.entered.ensures (c.note-noted.ensures _)) c.in-Went-noted.is
-    (rw c.entry.ensures at c.perform.ensures)))
+returns c = (went-next _ _ c.pay.ensures.came c.in_ok-pay.was (rw (← c.activate.ensures)
+    (went-next _ _ (as-noted state_entered _ _ refl c.note.ensures.came) c.in_ok-note.was (rw c.entry.ensures at c.perform.ensures))))

@@ -1,30 +1,14 @@
--- `entering::on_the_way` meets its contract. The loop's invariant: the first child on the way from the start is the first
--- from here on. The measure is how many states are left. Assumes nothing.
-use mathlib.Core.Path.{sym, ap, ◌∙◌}
-use Rattle.rules.specs.Lists.{first}
-use Rattle.rules.specs.Fire.{on_the_way}
-use Rattle.moves.proofs.Follows.{first-none, first-here, first-later}
-use Rattle.moves.proofs.Enters.{all_from, none_from, a-child, no-child}
+-- `entering::on_the_way` meets its contract: the library's `find` over the states' numbers, the root's left out. Assumes nothing.
+use borrow.Author.Rules.{rules}
+use borrow.Author.Tests.{tests}
+use mathlib.Core.Path.{refl}
+use Rattle.std.proofs.lemmas.Iterator.{YieldsList-from_range, YieldsList-from_map}
+use Rattle.std.proofs.lemmas.Iterator.Search.{find_from_yields_List}
+use Rattle.moves.proofs.Enters.{leads, way-found}
 use Rattle.moves.proofs.entering.on_the_way.Goals as goal
-use Rattle.moves.proofs.entering.on_the_way.Goals.{then-parent-s+else-over, else-parent-s}
-
-pub loop-n-init : goal.loop-n-init
-unfolding on_the_way
-loop-n-init c = ap (first _) (all_from _ _ _ c.requires)
-
-pub returns-then-over : goal.returns-then-over
-returns-then-over c = first-here _ c.loop-n.invariant (a-child c.args.chart.now _ _ _ c.loop-n-test.true c.parent.ensures c.if-parent-s.true)
-    (sym c.over.ensures ∙ c.if-over.true)
-
-pub loop-n-preserved : goal.loop-n-preserved
-loop-n-preserved c = let chart = c.args.chart.now in
-    elim c.if-parent-s.branch [
-      | then-parent-s+else-over w ↦
-          first-later _ c.loop-n.invariant (a-child chart _ _ _ c.loop-n-test.true c.parent.ensures w.if-parent-s.true)
-          (sym w.over.ensures ∙ w.if-over.false)
-      | else-parent-s w ↦
-          c.loop-n.invariant ∙ ap (first _) (no-child chart _ _ _ c.loop-n-test.true c.parent.ensures w.if-parent-s.false)
-    ]
 
 pub returns : goal.returns
-returns c = first-none _ c.loop-n.invariant (none_from c.args.chart.now _ _ _ c.loop-n-test.false)
+returns c = let a = c.args in way-found a.chart.now a.s.0 a.target.0 c.header.result c.header.ensures _
+    (find_from_yields_List (leads a.chart.now a.s.0 a.target.0) _ _ c.find.result c.find.ensures.ran
+    (YieldsList-from_map _ (λ k. record { 0 = k }) (YieldsList-from_range 1 c.header.result.states _ c.map.ensures.source refl) c.map.ensures.closure (λ x r q k. search (rules, tests)))
+    (λ x b q k. search (rules, tests)))

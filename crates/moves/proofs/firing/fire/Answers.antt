@@ -1,25 +1,21 @@
 -- `firing::fire` meets its contract: three doings one after another, of which one that is refused ends all. Assumes nothing.
 use mathlib.Core.Path.{sym}
+use Rattle.doing.proofs.Sequels.{refused-ends, went-next}
 use Rattle.rules.specs.Doing.{◌>>◌}
 use Rattle.rules.specs.Fire.{fire}
-use Rattle.moves.proofs.Follows.{refused-ends, went-next}
 use Rattle.moves.proofs.firing.fire.Goals as goal
 
-pub returns-in_default : goal.returns-in_default
+pub returns-in_err-leave_children : goal.returns-in_err-leave_children
 unfolding fire ◌>>◌
-returns-in_default c = rw (sym c.arena-ground.ensures) (refused-ends _ _ _ c.leave_children-emptied.ensures c.in_default.is)
+returns-in_err-leave_children c = rw (sym c.arena-ground.ensures)
+    (refused-ends _ _ c.leave_children.ensures c.in_err-leave_children.was _ _ c.from_residual.ensures.1)
 
-pub returns-in_default-acted : goal.returns-in_default-acted
+pub returns-in_err-transit_path : goal.returns-in_err-transit_path
 unfolding fire ◌>>◌
-returns-in_default-acted c = rw (sym c.arena-ground.ensures)
-    (went-next _ _ _ c.leave_children-emptied.ensures c.in-Went.is
-    (refused-ends _ _ _ c.transit_path-acted.ensures c.in_default-acted.is))
-
-pub enter_children-requires : goal.enter_children-requires
-enter_children-requires c = c.requires
+returns-in_err-transit_path c = rw (sym c.arena-ground.ensures) (went-next _ _ c.leave_children.ensures c.in_ok-leave_children.was
+    (refused-ends _ _ c.transit_path.ensures c.in_err-transit_path.was _ _ c.from_residual-in_err-transit_path.ensures.1))
 
 pub returns : goal.returns
 unfolding fire ◌>>◌
-returns c = rw (sym c.arena-ground.ensures)
-    (went-next _ _ _ c.leave_children-emptied.ensures c.in-Went.is
-    (went-next _ _ _ c.transit_path-acted.ensures c.in-Went-acted.is c.enter_children.ensures))
+returns c = rw (sym c.arena-ground.ensures) (went-next _ _ c.leave_children.ensures c.in_ok-leave_children.was
+    (went-next _ _ c.transit_path.ensures c.in_ok-transit_path.was c.enter_children.ensures))

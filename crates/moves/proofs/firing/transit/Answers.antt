@@ -1,16 +1,15 @@
 -- `firing::transit` meets its contract: the item, then the action. Assumes nothing.
+use mathlib.Core.Path.{refl}
 use Rattle.doing.proofs.Laws.{as-noted}
+use Rattle.doing.proofs.Sequels.{refused-ends, went-next}
 use Rattle.rules.specs.Doing.{◌>>◌, transition_performed}
 use Rattle.rules.specs.Fire.{transit}
-use Rattle.moves.proofs.Follows.{refused-ends, went-next}
 use Rattle.moves.proofs.firing.transit.Goals as goal
 
-pub returns-in_default : goal.returns-in_default
+pub returns-in_err-note : goal.returns-in_err-note
 unfolding transit ◌>>◌
-returns-in_default c = refused-ends _ _ _ (as-noted transition_performed _ _ c.transition.ensures (c.note-noted.ensures _))
-    c.in_default.is
+returns-in_err-note c = refused-ends _ _ (as-noted transition_performed _ _ refl c.note.ensures.came) c.in_err-note.was _ _ c.from_residual.ensures.1
 
 pub returns : goal.returns
 unfolding transit ◌>>◌
-returns c = went-next _ _ _ (as-noted transition_performed _ _ c.transition.ensures (c.note-noted.ensures _)) c.in-Went.is
-    (rw (c.transition_action.ensures, c.requires) at c.perform.ensures)
+returns c = went-next _ _ (as-noted transition_performed _ _ refl c.note.ensures.came) c.in_ok-note.was (rw (← c.transition_action.ensures) c.perform.ensures)

@@ -1,16 +1,16 @@
--- `leaving::depart` meets its contract: the exit action, then the image with the record and without the bit. Assumes nothing.
+-- `leaving::depart` meets its contract: the exit action, then the record, the bit and the item. Assumes nothing.
+use mathlib.Core.Path.{refl}
 use Rattle.doing.proofs.Laws.{as-noted}
+use Rattle.doing.proofs.Sequels.{refused-ends, went-next}
 use Rattle.rules.specs.Doing.{◌>>◌, change, state_left}
 use Rattle.moves.specs.Steps.{departing}
-use Rattle.moves.proofs.Follows.{refused-ends, went-next}
-use Rattle.moves.proofs.Leaves.{noted-left}
 use Rattle.moves.proofs.leaving.depart.Goals as goal
 
-pub returns-in_default : goal.returns-in_default
+pub returns-in_err-perform : goal.returns-in_err-perform
 unfolding departing ◌>>◌
-returns-in_default c = refused-ends _ _ _ (rw c.exit.ensures at c.perform-acted.ensures) c.in_default.is
+returns-in_err-perform c = refused-ends _ _ (rw c.exit.ensures at c.perform.ensures) c.in_err-perform.was _ _ c.from_residual.ensures.1
 
 pub returns : goal.returns
 unfolding departing ◌>>◌ change
-returns c = went-next _ _ _ (rw c.exit.ensures at c.perform-acted.ensures) c.in-Went.is
-    (rw (noted-left, ← c.remember.ensures, ← c.deactivate.ensures) (as-noted state_left _ _ c.left.ensures (c.note.ensures _)))
+returns c = went-next _ _ (rw c.exit.ensures at c.perform.ensures) c.in_ok-perform.was
+    (rw (← c.remember.ensures, ← c.deactivate.ensures) (as-noted state_left _ _ refl c.note.ensures.came))

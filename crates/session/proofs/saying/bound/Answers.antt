@@ -1,18 +1,30 @@
 -- The answer's parts are the refusal and the bound, and the line is theirs. Assumes nothing.
+use mathlib.Core.Path.{◌≡◌}
 use native.Mathlib.Omega.{arith}
+use Rattle.std.proofs.lemmas.Grind.{common_steps}
+use Rattle.std.proofs.Common.{◌%◌}
+use Rattle.rules.specs.Lists.{within}
 use Rattle.session.proofs.Numbered.{first, next, ended, room}
 use Rattle.session.proofs.Answers.{bound-parts, follow}
 use Rattle.session.proofs.saying.bound.Goals as goal
 
-pub put_next-end-requires : goal.put_next-end-requires
-put_next-end-requires c = omega (arith, room (first _ _ c.put_number-end.ensures))
+pub next-requires : goal.next-requires
+next-requires c = omega (arith, room (first _ c.new-line.ensures c.number.ensures))
 
-pub put_end-requires : goal.put_end-requires
-put_end-requires c = let refusal = first _ _ c.put_number-end.ensures in
-    omega (arith, room (next refusal _ c.put_next-end.ensures))
+pub end-requires : goal.end-requires
+end-requires c =
+    let refusal = first _ c.new-line.ensures c.number.ensures in
+    omega (arith, room (next refusal _ c.next.ensures))
 
-pub returns : goal.returns
-returns c = let (refusal, least) = bound-parts _ c.bound-answer.ensures in
-    let one = first _ _ c.put_number-end.ensures in
-    let two = next one _ c.put_next-end.ensures in
-    record { length_after = rw (← refusal, ← least) (ended two c.put_end.ensures); more_value = follow refusal }
+pub returns-clause-line_value : goal.returns-clause-line_value
+returns-clause-line_value c =
+    let (refusal, least) = bound-parts _ c.bound-answer.ensures in
+    let one = first _ c.new-line.ensures c.number.ensures in
+    let two = next one _ c.next.ensures in
+    rw (← refusal, ← least) (ended two c.end.ensures)
+
+pub returns-clause-more_value : goal.returns-clause-more_value
+returns-clause-more_value c =
+    let (refusal, least) = bound-parts _ c.bound-answer.ensures in
+    let test : c.contains.result ≡ within 1 11 (c.bound-answer.result % 256) = grind (arith, common_steps) in
+    follow refusal test

@@ -5,42 +5,33 @@ use Rattle.session.proofs.Numbered.{first, next, others, ended, room}
 use Rattle.session.proofs.Answers.{few-items, step-told}
 use Rattle.session.proofs.saying.step.Goals as goal
 
-pub put_next-end-requires : goal.put_next-end-requires
-put_next-end-requires c = omega (arith, room (first _ _ c.put_number-end.ensures))
+pub next-requires : goal.next-requires
+next-requires c = omega (arith, room (first _ c.new-line.ensures c.number.ensures))
 
-pub put_next-end-requires-2 : goal.put_next-end-requires-2
-put_next-end-requires-2 c = let one = first _ _ c.put_number-end.ensures in
-    let two = next one _ c.put_next-end.ensures in
-    omega (arith, room two)
+pub next-requires-2 : goal.next-requires-2
+next-requires-2 c =
+    let one = first _ c.new-line.ensures c.number.ensures in
+    omega (arith, room (next one _ c.next.ensures))
 
-pub put_items-end-requires : goal.put_items-end-requires
-put_items-end-requires c = let one = first _ _ c.put_number-end.ensures in
-    let two = next one _ c.put_next-end.ensures in
-    let three = next two _ c.put_next-end-2.ensures in
-    omega (
-      arith,
-      room three,
-      few-items _ _ _ _ _ _
-          c.step-answer.ensures,
-    )
+pub items-requires : goal.items-requires
+items-requires c =
+    let one = first _ c.new-line.ensures c.number.ensures in
+    let two = next one _ c.next.ensures in
+    let three = next two _ c.next-2.ensures in
+    omega (arith, room three, few-items _ _ _ _ _ _ c.step-answer.ensures)
 
-pub put_end-requires : goal.put_end-requires
-put_end-requires c = let one = first _ _ c.put_number-end.ensures in
-    let two = next one _ c.put_next-end.ensures in
-    let three = next two _ c.put_next-end-2.ensures in
-    let all = others three _ c.put_items-end.ensures in
-    omega (
-      arith,
-      rw items-count at (room all),
-      few-items _ _ _ _ _ _
-          c.step-answer.ensures,
-    )
+pub end-requires : goal.end-requires
+end-requires c =
+    let one = first _ c.new-line.ensures c.number.ensures in
+    let two = next one _ c.next.ensures in
+    let three = next two _ c.next-2.ensures in
+    let all = others three _ c.items.ensures in
+    omega (arith, rw items-count at (room all), few-items _ _ _ _ _ _ c.step-answer.ensures)
 
 pub returns : goal.returns
-returns c = let one = first _ _ c.put_number-end.ensures in
-    let two = next one _ c.put_next-end.ensures in
-    let three = next two _ c.put_next-end-2.ensures in
-    let all = others three _ c.put_items-end.ensures in
-    step-told _ _ _ _ _ _
-    c.step-answer.ensures _ (ended all
-    c.put_end.ensures)
+returns c =
+    let one = first _ c.new-line.ensures c.number.ensures in
+    let two = next one _ c.next.ensures in
+    let three = next two _ c.next-2.ensures in
+    let all = others three _ c.items.ensures in
+    step-told _ _ _ _ _ _ c.step-answer.ensures (ended all c.end.ensures)

@@ -1,12 +1,17 @@
 -- `Header::checked` goes by `fits`, the definition by the test that `fits` answers. Assumes nothing.
-use mathlib.Core.Path.{sym, ◌∙◌}
+use mathlib.Core.Path.{◌≡◌, refl}
+use mathlib.Core.Bool.{Bool, true, false}
+use Rattle.std.specs.Prelude.{Some, None}
+use Rattle.std.specs.Bool.{then_some}
 use Rattle.rules.specs.Lists.{when◌then◌else◌}
+use Rattle.rules.specs.Types.{fits_of}
+use Rattle.rules.specs.declared.headers.Header.{Header}
 use Rattle.rules.proofs.headers.Header.checked.Goals as goal
 
-pub returns-then-fits : goal.returns-then-fits
+chosen : (b : Bool) (h : Header) → then_some b h ≡ (when b then Some h else None)
 unfolding when◌then◌else◌
-returns-then-fits c = simp (sym c.fits.ensures ∙ c.if-fits.true)
+chosen true h = refl
+chosen false h = refl
 
-pub returns-else-fits : goal.returns-else-fits
-unfolding when◌then◌else◌
-returns-else-fits c = simp (sym c.fits.ensures ∙ c.if-fits.false)
+pub returns : goal.returns
+returns c = rw (c.then_some.ensures, c.fits.ensures) (chosen (fits_of c.args.self) c.args.self)

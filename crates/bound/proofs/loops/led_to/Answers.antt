@@ -1,0 +1,36 @@
+-- The tests in a row, each of what was read: the start, the end, the start's flag, the end's number. Assumes nothing.
+use Rattle.std.proofs.Common.{rules}
+use Rattle.bound.proofs.Starting.{starts-elsewhere, starts-on, no-junction, ends-there, ends-on, on-state, not-flagged, past-junctions, flagged-on}
+use Rattle.bound.proofs.loops.led_to.Goals as goal
+use Rattle.bound.proofs.loops.led_to.Goals.{else-here-from-via-then-here-from+else-to-header, else-here-from-via-else-here-from}
+
+pub returns-in_default : goal.returns-in_default
+returns-in_default c =
+    let off = starts-elsewhere c.args.chart.now c.args.t.0 c.source.ensures (λ j e. search rules) in
+    no-junction c.args.chart.now c.args.t.0 c.args.here.now off
+
+pub returns-in_default-2 : goal.returns-in_default-2
+returns-in_default-2 c =
+    let off = starts-elsewhere c.args.chart.now c.args.t.0 c.source.ensures (λ j e. search rules) in
+    no-junction c.args.chart.now c.args.t.0 c.args.here.now off
+
+pub returns-in_default-end : goal.returns-in_default-end
+returns-in_default-end c =
+    let on = ends-there c.args.chart.now c.args.t.0 c.end.ensures c.in_default-end.is in
+    on-state c.args.chart.now c.args.t.0 c.args.here.now on
+
+pub returns-then-to-header : goal.returns-then-to-header
+returns-then-to-header c =
+    let from = starts-on c.args.chart.now c.args.t.0 c.source.ensures c.in-Some-Junction.is c.in-Some-Junction.field-0-is in
+    let to = ends-on c.args.chart.now c.args.t.0 c.end.ensures c.in-Junction.is in
+    let inside = rw c.header.ensures at c.if-to-header.true in
+    flagged-on c.args.chart.now c.args.t.0 c.args.here.now from to c.if-here-from.true inside
+
+pub returns-else-here-from : goal.returns-else-here-from
+returns-else-here-from c =
+    let from = starts-on c.args.chart.now c.args.t.0 c.source.ensures c.in-Some-Junction.is c.in-Some-Junction.field-0-is in
+    let to = ends-on c.args.chart.now c.args.t.0 c.end.ensures c.in-Junction.is in
+    elim c.else-here-from.branch [
+      | else-here-from-via-then-here-from+else-to-header w ↦ past-junctions c.args.chart.now c.args.t.0 c.args.here.now from to (rw w.header.ensures at w.if-to-header.false)
+      | else-here-from-via-else-here-from w ↦ not-flagged c.args.chart.now c.args.t.0 c.args.here.now from to w.if-here-from.false
+    ]

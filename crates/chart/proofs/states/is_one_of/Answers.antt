@@ -1,6 +1,0 @@
--- The field is compared as the rules have it. Assumes nothing.
-use mathlib.Core.Path.{refl}
-use Rattle.chart.proofs.states.is_one_of.Goals as goal
-
-pub returns : goal.returns
-returns c = rw c.kind.ensures refl

@@ -1,0 +1,9 @@
+-- Each number below the count. Assumes nothing.
+use Rattle.std.proofs.Common.{ap, rules}
+use borrow.Author.Tests.{tests}
+use Rattle.rules.specs.declared.headers.Header.{Header}
+use Rattle.checker.proofs.Every.{all_below}
+use Rattle.checker.proofs.segments.right.Goals as goal
+
+pub returns : goal.returns
+returns c = all_below _ _ _ _ c.all.ensures.ran (ap (λ (h : Header). h.segments) c.header.ensures) (λ x b q k. search (rules, tests))

@@ -1,0 +1,10 @@
+-- The number of the value is put, by the machine's cast. Assumes nothing.
+use mathlib.Core.Path.{ap, ◌∙◌}
+use mir.Syntax.{w32}
+use Rattle.rules.specs.Bytes.{put}
+use Rattle.fields.proofs.Signs.{unsigned-held}
+use Rattle.fields.proofs.I32Field.put.Goals as goal
+
+pub returns : goal.returns
+returns c = let a = c.args in
+    c.put.ensures ∙ ap (put 4 a.s.now a.place) (unsigned-held w32 a.self _ c.ranges.self c.cast_unsigned.ensures)
