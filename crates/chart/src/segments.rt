@@ -152,7 +152,7 @@ fn word_of(chart: &[u8], h: Header, t: SegmentNo) -> u16
 }
 
 // The first segment from a number on that has these two bytes. Both are one load, and the place is counted on: an iterator's
-// `find` took twice as long.
+// `find` took half as long again.
 fn listed(chart: &[u8], h: Header, source: u16, from: u16) -> Option<SegmentNo>
     ensures { result ≡ first_segment (starting_from chart.now h (source % 256) (source / 256) from) }
 {
