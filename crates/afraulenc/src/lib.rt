@@ -57,13 +57,14 @@ fn step_on_copies(
     };
     let mut now = Now::new(&mut image, &mut items[..room], counts);
     stepping::step(chart, &mut now, event)?;
-    part.copy_from_slice(now.image());
     let noted = now.items();
     parts::hand_on(trace, noted);
-    Ok(Went {
+    let went = Went {
         items: noted.len() as u16,
         units: allowance - now.units(),
-    })
+    };
+    part.copy_from_slice(&image);
+    Ok(went)
 }
 
 // 13 to 15, then the step.

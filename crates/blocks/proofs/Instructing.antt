@@ -74,16 +74,16 @@ the-error {r} {told} value none err =
     let two : told ≡ Err Arithmetic = rw none at value in cc
 
 -- the values of the stack that are combined, and their answer, an error where there is none
-module _ (o : Binary) (i : Instruction) (st : Stack) (n : Now) {x y : ℤ} {less rest : Stack} (upper : y ≡ top st) (less-is : less ≡ drop 1 st)
-    (below : x ≡ top less) (rest-is : rest ≡ drop 1 less) {r : Option ℤ} (is : r ≡ combined o x y) where
+module _ (o : Binary) (i : Instruction) (st : Stack) (n : Now) {x y : ℤ} (below : x ≡ lower st) (upper : y ≡ top st)
+    {r : Option ℤ} (is : r ≡ combined o x y) where
   combines : answered st r n ≡ instruct no_send (binary_meant o) i st n
-  combines = rw (answers o i st, is, upper, below, less-is, lower-is st)
+  combines = rw (answers o i st, is, upper, below)
 
   module _ {told : Result ℤ Refusal} (some : r ≡ result_ok told) where
-    pub binary-is : {v : ℤ} → told ≡ Ok v → {more : Stack} → more ≡ (v onto rest)
+    pub binary-is : {v : ℤ} → told ≡ Ok v → {rest more : Stack} → rest ≡ drop 2 st → more ≡ (v onto rest)
         → went (ran more) n ≡ instruct no_send (binary_meant o) i st n
     unfolding answered give
-    binary-is ok e = rw (e, rest-is, less-is, two-less st) (rw (some, ok) at combines)
+    binary-is ok less e = rw (e, less) (rw (some, ok) at combines)
 
     pub binary-outside : {why : Refusal} → told ≡ Err why → told ≡ ok_or r Arithmetic → (all : Result (Unit {0}) Refusal) (more : Stack)
         → IsErrAnd all (λ e. e ≡ why) → ran_of all more n ≡ instruct no_send (binary_meant o) i st n

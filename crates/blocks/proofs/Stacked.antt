@@ -14,7 +14,7 @@ use mir.Val.{SFits, to_z, of_z}
 use mir.ValLaws.{to_z-of_z}
 use Rattle.rules.specs.Lists.{when◌then◌else◌}
 use Rattle.rules.specs.Chart.{stack_places}
-use Rattle.rules.specs.Block.{top, ◌onto◌}
+use Rattle.rules.specs.Block.{top, lower, ◌onto◌}
 use Rattle.blocks.specs.Stacks.{stack_of}
 
 pub stack-length : (cells : List ℤ) (n : ℕ) → length (stack_of cells n) ≡ n
@@ -46,6 +46,16 @@ pub top-read : (cells : List ℤ) (n : ℕ) → SFits w32 (get_or cells (n - 1) 
     → to_z w32 (of_z w32 (get_or cells (n - 1) (pos 0))) ≡ top (stack_of cells n)
 unfolding top
 top-read cells n f some = read_at cells n 0 f (omega (arith, some))
+
+-- the value below it
+pub lower-none : (cells : List ℤ) (n : ℕ) → n < 2 → pos 0 ≡ lower (stack_of cells n)
+unfolding lower
+lower-none cells n few = sym (value-past cells n 1 (omega (arith, few)))
+
+pub lower-read : (cells : List ℤ) (n : ℕ) → SFits w32 (get_or cells (n - 2) (pos 0)) → 2 ≤ n
+    → to_z w32 (of_z w32 (get_or cells (n - 2) (pos 0))) ≡ lower (stack_of cells n)
+unfolding lower
+lower-read cells n f two = read_at cells n 1 f (omega (arith, two))
 
 -- the stack without its top k
 pub stack-drop : (cells : List ℤ) (k n : ℕ) → stack_of cells (n - k) ≡ drop k (stack_of cells n)

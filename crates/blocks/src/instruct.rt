@@ -1,9 +1,10 @@
 // One instruction on the value stack, the image and the trace.
 ghost use Rattle.std.specs.Prelude.{◌≡◌};
 ghost use Rattle.rules.specs.Chart as ops;
-ghost use Rattle.rules.specs.Doing.{Now};
+ghost use Rattle.rules.specs.Doing as step;
 ghost use Rattle.rules.specs.Block as rules;
 ghost use Rattle.chart.specs.Read.{instruction_from};
+ghost use Rattle.doing.specs.Held.{held, Same};
 ghost use Rattle.blocks.specs.Values.{binary_meant};
 ghost use Rattle.blocks.specs.Performed.{ran_of};
 ghost use Rattle.blocks.specs.Code.{instructed};
@@ -19,11 +20,10 @@ use rules::refusals::Refusal;
 
 // The top is a binary op's second operand, what is below it the first.
 fn binary(op: Binary, stack: &mut Stack) -> Result<(), Refusal>
-    ensures { (n : Now) (i : ops.Instruction) → ran_of result stack.new n ≡ rules.instruct rules.no_send (binary_meant op) i stack.old n }
+    ensures { (n : step.Now) (i : ops.Instruction) → ran_of result stack.new n ≡ rules.instruct rules.no_send (binary_meant op) i stack.old n }
 {
-    let top = stack.pop();
-    let lower = stack.pop();
-    let value = values::combine(op, lower, top).ok_or(Refusal::Arithmetic)?;
+    let value = values::combine(op, stack.lower(), stack.top()).ok_or(Refusal::Arithmetic)?;
+    stack.take_off(2);
     stack.push(value);
     Ok(())
 }
@@ -31,7 +31,8 @@ fn binary(op: Binary, stack: &mut Stack) -> Result<(), Refusal>
 // The instruction at a place of a block's part of a chart; its operands are read where they are wanted. A send is barred here,
 // and an unknown op is in no chart that is taken: nothing is done.
 pub fn perform(part: &[u8], place: u32, stack: &mut Stack, now: &mut Now) -> Result<(), Refusal>
-    ensures { ran_of result stack.new now.new ≡ instructed (instruction_from part.now place) stack.old now.old }
+    ensures came { ran_of result stack.new (held now.new) ≡ instructed (instruction_from part.now place) stack.old (held now.old) }
+    ensures same { Same now.old now.new }
 {
     match instructions::op_at(part, place) {
         Op::Push => stack.push(instructions::b_at(part, place) as i32),

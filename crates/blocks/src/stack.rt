@@ -22,7 +22,7 @@ impl Model for Stack {
 }
 
 impl Stack {
-    ghost use Rattle.std.specs.Prelude.{◌≡◌, []};
+    ghost use Rattle.std.specs.Prelude.{◌≡◌, [], length};
     ghost use Rattle.std.proofs.Math.ListN as list;
     ghost use Rattle.rules.specs.Block as rules;
     ghost use Rattle.rules.specs.Block.{◌onto◌};
@@ -46,7 +46,31 @@ impl Stack {
         self.cells[self.taken - 1]
     }
 
-    // The same, and it is taken off.
+    // The value below it, 0 where there is none.
+    pub fn lower(&self) -> i32
+        ensures { result ≡ rules.lower self.now }
+    {
+        if self.taken < 2 {
+            return 0;
+        }
+        self.cells[self.taken - 2]
+    }
+
+    // How many values there are.
+    pub fn len(&self) -> usize
+        ensures { result ≡ length self.now }
+    {
+        self.taken
+    }
+
+    // So many are taken off the top, all where there are fewer.
+    pub fn take_off(&mut self, count: usize)
+        ensures { self.new ≡ list.drop count self.old }
+    {
+        self.taken = self.taken.saturating_sub(count);
+    }
+
+    // The top value, 0 where there is none; it is taken off.
     pub fn pop(&mut self) -> i32
         ensures value { result ≡ rules.top self.old }
         ensures rest { self.new ≡ list.drop 1 self.old }
@@ -62,9 +86,10 @@ impl Stack {
     pub fn push(&mut self, value: i32)
         ensures { self.new ≡ (value onto self.old) }
     {
-        if self.taken < Block::CELLS {
-            self.cells[self.taken] = value;
-            self.taken += 1;
+        let at = self.taken; // read once, since for the machine a store into the cells could change it
+        if at < Block::CELLS {
+            self.cells[at] = value;
+            self.taken = at + 1;
         }
     }
 }

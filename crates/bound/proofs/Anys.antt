@@ -1,13 +1,11 @@
--- Tests of any of a list: by two tests, of what is kept, of two lists in either order; and lists in which there is nothing.
--- Assumes nothing.
+-- Tests of any of a list: by two tests, of what is kept, of two lists in either order. Assumes nothing.
 use mathlib.Core.Path.{◌≡◌, refl, sym, ◌∙◌}
 use mathlib.Core.Bool.{Bool, true, false, ◌&&◌, ◌||◌, and-false}
-use mathlib.Core.Bool as B
 use mathlib.Core.List.{List, [], ◌∷◌}
 use Prim.Native.Nat.{ℕ}
 use native.Mathlib.Omega.{arith}
-use lib.Dec.{eqb, ltb}
-use borrow.Author.Tests.{eqb-false, le-leb}
+use lib.Dec.{ltb}
+use borrow.Author.Tests.{le-leb}
 use Rattle.rules.specs.Lists.{when◌then◌else◌, below, any, keep, is_in}
 use Rattle.chart.proofs.Ranges.{below-range, is_in_range}
 
@@ -36,16 +34,6 @@ any-both a b f (x ∷ xs) = rw (any-both a b f xs) (both-or a (f x) (any f xs) b
 pub any_left : (a : Bool) (f : ℕ → Bool) (xs : List ℕ) → any (λ x. a && f x) xs ≡ a && any f xs
 any_left true f xs = refl
 any_left false f xs = any_false xs
-
--- fewer pass two tests
-fewer : (a b u v : Bool) → a || u ≡ false → (u ≡ false → v ≡ false) → a && b || v ≡ false
-fewer true b u v e f = absurd (B.true≢false e)
-fewer false b u v e f = f e
-
-pub any-fewer : (f g : ℕ → Bool) (xs : List ℕ) → any f xs ≡ false → any (λ x. f x && g x) xs ≡ false
-unfolding any
-any-fewer f g [] e = refl
-any-fewer f g (x ∷ xs) e = fewer (f x) (g x) (any f xs) (any (λ x. f x && g x) xs) e (any-fewer f g xs)
 
 kept_any : (g : ℕ → Bool) (t : Bool) (x : ℕ) (xs : List ℕ) → any g (when t then x ∷ xs else xs) ≡ t && g x || any g xs
 unfolding any when◌then◌else◌
@@ -76,13 +64,3 @@ any_swap h (x ∷ xs) ys = rw (any_swap h xs ys) (any-or (h x) (λ y. any (λ x.
 
 pub in-below : (j m : ℕ) → is_in j (below m) ≡ ltb j m
 in-below j m = rw (below-range m, is_in_range j 0 m, le-leb 0 j (omega arith))
-
--- nothing is in a list: it has nothing
-pub in-none : (xs : List ℕ) → ((x : ℕ) → is_in x xs ≡ false) → xs ≡ []
-unfolding is_in any
-in-none [] e = refl
-in-none (x ∷ xs) e = absurd (eqb-false x x (first (eqb x x) (any (eqb x) xs) (e x)) refl)
-  where
-    first : (a b : Bool) → a || b ≡ false → a ≡ false
-    first true b q = q
-    first false b q = refl

@@ -4,22 +4,14 @@ use mathlib.Core.Bool.{Bool, true, false, ◌||◌, or-false}
 use mathlib.Core.Bool as B
 use Prim.Native.Nat.{ℕ, ◌<◌}
 use lib.Dec.{eqb}
-use lib.ListN.{length, set, replicate}
+use lib.ListN.{set, replicate}
 use borrow.Author.Tests.{eq-eqb}
 use Rattle.bound.specs.Flags.{flags, is_flagged}
-use Rattle.bound.proofs.Tabling.{length-table, at_table, same-table, empty-table, set-table}
+use Rattle.bound.proofs.Tabling.{at_table, empty-table, set-table}
 
 pub flagged : (f : ℕ → Bool) (j : ℕ) → j < 256 → is_flagged (flags f) j ≡ f j
 unfolding flags
 flagged f j h = at_table false f j h
-
-pub length-flags : (f : ℕ → Bool) → length (flags f) ≡ 256
-unfolding flags
-length-flags f = length-table f
-
-pub same_flags : (f g : ℕ → Bool) → ((j : ℕ) → f j ≡ g j) → flags f ≡ flags g
-unfolding flags
-same_flags f g e = same-table false f g (λ j h. e j)
 
 pub no-flags : (f : ℕ → Bool) → ((j : ℕ) → f j ≡ false) → replicate 256 false ≡ flags f
 unfolding flags

@@ -7,5 +7,6 @@ pub mod Adding
 pub mod Flagging
 pub mod Anys
 pub mod Leading
+pub mod Counting
 pub mod Reaching
 pub mod Told

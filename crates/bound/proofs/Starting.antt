@@ -130,11 +130,11 @@ module _ (c : Chart) (t : Segment) (here : List Bool) where
   on-state e = rw (e, B.and-false (eqb (source_kind c t) 2 && is_flagged here (source c t)))
 
   module _ {i : ℕ} (on : (eqb (source_kind c t) 2 ≡ true) × (i ≡ source c t)) where
-    module _ {j : JunctionNo} (to : (ends_on_state c t ≡ false) × (j.0 ≡ destination c t)) where
-      pub not-flagged : is_flagged here i ≡ false → None ≡ led_to c here t
-      unfolding leads_on when◌then◌else◌
-      not-flagged n = rw (on.0, ← on.1, n)
+    pub not-flagged : is_flagged here i ≡ false → None ≡ led_to c here t
+    unfolding leads_on when◌then◌else◌
+    not-flagged n = rw (on.0, ← on.1, n)
 
+    module _ {j : JunctionNo} (to : (ends_on_state c t ≡ false) × (j.0 ≡ destination c t)) where
       pub past-junctions : junctions c ≤ j.0 → None ≡ led_to c here t
       unfolding leads_on when◌then◌else◌
       past-junctions n = rw (← to.1, le-ltb j.0 (junctions c) n, B.and-false (eqb (source_kind c t) 2 && is_flagged here (source c t) && B.not (ends_on_state c t)))

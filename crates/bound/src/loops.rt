@@ -1,7 +1,7 @@
-// Whether segments lead from a junction back to it: the junctions that n segments lead to, for each n in turn.
+// Whether segments lead from a junction back to it.
 ghost use Rattle.std.specs.Prelude.{◌≡◌};
 ghost use Rattle.rules.specs.Bound as rules;
-ghost use Rattle.bound.specs.Flags.{led_to, led_on};
+ghost use Rattle.bound.specs.Flags.{led_to};
 
 use chart::Chart;
 use chart::segments::{End, Source};
@@ -17,32 +17,21 @@ fn led_to(chart: &Chart, here: &Flags, t: SegmentNo) -> Option<JunctionNo>
     let Some(Source::Junction(from)) = chart.source(t) else {
         return None;
     };
+    if !here[from.0 as usize] {
+        return None;
+    }
     let End::Junction(to) = chart.end(t) else {
         return None;
     };
-    if here[from.0 as usize] && to.0 < chart.header().junctions {
+    if to.0 < chart.header().junctions {
         Some(to)
     } else {
         None
     }
 }
 
-// The junctions that one segment more leads to are flagged; none where no segment leads on.
-fn onward(chart: &Chart, here: &Flags) -> Option<Flags>
-    ensures { result ≡ led_on chart.now here.now }
-{
-    let mut there = [false; JunctionNo::PLACES];
-    let mut more = false;
-    for t in 0..chart.header().segments {
-        if let Some(to) = led_to(chart, here, SegmentNo(t)) {
-            there[to.0 as usize] = true;
-            more = true;
-        }
-    }
-    if more { Some(there) } else { None }
-}
-
-// Whether segments lead from j back to it.
+// Whether segments lead from j back to it: what a segment leads on to from a flagged junction is flagged too, until a round over
+// the segments has none that is new. In each round before, one is.
 pub fn loops(chart: &Chart, j: JunctionNo) -> bool
     ensures { result ≡ rules.loops chart.now j.0 }
 {
@@ -51,13 +40,21 @@ pub fn loops(chart: &Chart, j: JunctionNo) -> bool
     here[j.0 as usize] = true;
     let junctions = chart.header().junctions;
     for _ in 0..=junctions {
-        let Some(there) = onward(chart, &here) else {
-            return false;
-        };
-        if there[j.0 as usize] {
-            return true;
+        let mut more = false;
+        for t in 0..chart.header().segments {
+            if let Some(to) = led_to(chart, &here, SegmentNo(t)) {
+                if to == j {
+                    return true;
+                }
+                if !here[to.0 as usize] {
+                    here[to.0 as usize] = true;
+                    more = true;
+                }
+            }
         }
-        here = there;
+        if !more {
+            return false;
+        }
     }
     false
 }

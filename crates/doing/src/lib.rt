@@ -5,7 +5,6 @@ use image::{active, history, variables};
 use rules::items::Item;
 use rules::numbers::StateNo;
 use rules::refusals::Refusal;
-use std::marker::Model;
 
 // The units left, and how many items were noted.
 #[derive(Clone, Copy, PartialEq, Eq, Debug)]
@@ -26,25 +25,17 @@ pub struct Now<'a> {
     counts: Counts,
 }
 
-impl<'a> Model for Now<'a> {
-    ghost use Rattle.rules.specs.Doing as rules;
-    ghost use Rattle.doing.specs.Held.{now_of};
-
-    ghost Value = { rules.Now };
-
-    ghost view = { λ n. now_of n.image.now n.trace.now n.counts };
-}
-
 impl<'a> Now<'a> {
-    ghost use Rattle.std.specs.Prelude.{◌≡◌, ◌++◌, ◌-◌, length, replicate, OnErr};
+    ghost use Rattle.std.specs.Prelude.{◌≡◌, ◌++◌, ◌-◌, length, take, replicate, OnErr};
     ghost use Rattle.rules.specs.Types.{word_of};
     ghost use Rattle.rules.specs.Image as image-rules;
     ghost use Rattle.rules.specs.Doing as rules;
-    ghost use Rattle.doing.specs.Held.{now_of, noted};
+    ghost use Rattle.doing.specs.Held.{now_of, held, noted, Same};
     ghost use Rattle.doing.specs.Outcomes.{outcome_of, with_image};
 
     pub fn new(image: &'a mut [u8], trace: &'a mut [u32], counts: Counts) -> Now<'a>
-        ensures { result ≡ now_of image.old trace.old counts }
+        ensures value { held result ≡ now_of image.old trace.old counts }
+        ensures same { (result.image.ghost_name ≡ image.entry.ghost_name) × (result.trace.ghost_name ≡ trace.entry.ghost_name) }
     {
         Now {
             image,
@@ -54,27 +45,28 @@ impl<'a> Now<'a> {
     }
 
     pub fn image(&self) -> &[u8]
-        ensures { result.now ≡ self.now.image }
+        ensures { result.now ≡ (held self.now).image }
     {
         self.image
     }
 
     pub fn units(&self) -> u32
-        ensures { result ≡ self.now.units }
+        ensures { result ≡ (held self.now).units }
     {
         self.counts().units
     }
 
     // The items noted, as far as the trace has them.
     pub fn items(&self) -> &[u32]
-        ensures { self.now.trace ≡ result.now ++ replicate (length self.now.trace - length result.now) 0 }
+        ensures value { result.now ≡ take self.now.counts.items self.now.trace.now }
+        ensures told { (held self.now).trace ≡ result.now ++ replicate (length (held self.now).trace - length result.now) 0 }
     {
         &self.trace[..self.counts.items.min(self.trace.len())]
     }
 
     // The units left, and how many items were noted.
     pub fn counts(&self) -> Counts
-        ensures { (result.units ≡ self.now.units) × (result.items ≡ length self.now.trace) }
+        ensures { (result.units ≡ (held self.now).units) × (result.items ≡ length (held self.now).trace) }
     {
         Counts {
             units: self.counts.units,
@@ -84,8 +76,10 @@ impl<'a> Now<'a> {
 
     // One unit is paid, or 16.
     pub fn pay(&mut self) -> Result<(), Refusal>
-        ensures came { outcome_of result self.new ≡ rules.pay self.old }
-        ensures kept { OnErr result (self.new ≡ self.old) }
+        ensures came { outcome_of result (held self.new) ≡ rules.pay (held self.old) }
+        ensures kept { OnErr result (held self.new ≡ held self.old) }
+        ensures same { Same self.old self.new }
+        ensures untouched { (self.new.image.now ≡ self.old.image.now) × (self.new.trace.now ≡ self.old.trace.now) }
     {
         if self.counts.units == 0 {
             return Err(Refusal::NoUnit);
@@ -96,16 +90,18 @@ impl<'a> Now<'a> {
 
     // One item is noted, or 20.
     pub fn note(&mut self, item: Item) -> Result<(), Refusal>
-        ensures came { outcome_of result self.new ≡ noted (word_of item) self.old }
-        ensures kept { OnErr result (self.new ≡ self.old) }
+        ensures came { outcome_of result (held self.new) ≡ noted (word_of item) (held self.old) }
+        ensures kept { OnErr result (held self.new ≡ held self.old) }
+        ensures same { Same self.old self.new }
     {
         self.note_word(item.word())
     }
 
     // The same by its word: the lent words are all the room there is.
     pub fn note_word(&mut self, word: u32) -> Result<(), Refusal>
-        ensures came { outcome_of result self.new ≡ noted word self.old }
-        ensures kept { OnErr result (self.new ≡ self.old) }
+        ensures came { outcome_of result (held self.new) ≡ noted word (held self.old) }
+        ensures kept { OnErr result (held self.new ≡ held self.old) }
+        ensures same { Same self.old self.new }
     {
         let at = self.counts.items;
         if self.trace.len() <= at {
@@ -118,49 +114,53 @@ impl<'a> Now<'a> {
 
     // The image's fields, and changes of them.
     pub fn not_started(&self) -> bool
-        ensures { result ≡ image-rules.not_started self.now.image }
+        ensures { result ≡ image-rules.not_started (held self.now).image }
     {
         active::not_started(self.image)
     }
 
     pub fn is_active(&self, s: StateNo) -> bool
-        ensures { result ≡ image-rules.is_active self.now.image s.0 }
+        ensures { result ≡ image-rules.is_active (held self.now).image s.0 }
     {
         active::is_active(self.image, s)
     }
 
     pub fn recorded(&self, s: StateNo) -> StateNo
-        ensures { result.0 ≡ image-rules.recorded self.now.image s.0 }
+        ensures { result.0 ≡ image-rules.recorded (held self.now).image s.0 }
     {
         history::recorded(self.image, s)
     }
 
     pub fn variable(&self, v: u8) -> i32
-        ensures { result ≡ image-rules.variable self.now.image v }
+        ensures { result ≡ image-rules.variable (held self.now).image v }
     {
         variables::value(self.image, v)
     }
 
     pub fn activate(&mut self, s: StateNo)
-        ensures { self.new ≡ with_image (image-rules.activate self.old.image s.0) self.old }
+        ensures value { held self.new ≡ with_image (image-rules.activate (held self.old).image s.0) (held self.old) }
+        ensures same { Same self.old self.new }
     {
         active::activate(self.image, s);
     }
 
     pub fn deactivate(&mut self, s: StateNo)
-        ensures { self.new ≡ with_image (image-rules.deactivate self.old.image s.0) self.old }
+        ensures value { held self.new ≡ with_image (image-rules.deactivate (held self.old).image s.0) (held self.old) }
+        ensures same { Same self.old self.new }
     {
         active::deactivate(self.image, s);
     }
 
     pub fn record_child(&mut self, p: StateNo, s: StateNo)
-        ensures { self.new ≡ with_image (image-rules.record_child self.old.image p.0 s.0) self.old }
+        ensures value { held self.new ≡ with_image (image-rules.record_child (held self.old).image p.0 s.0) (held self.old) }
+        ensures same { Same self.old self.new }
     {
         history::record_child(self.image, p, s);
     }
 
     pub fn set_variable(&mut self, v: u8, z: i32)
-        ensures { self.new ≡ with_image (image-rules.set_variable self.old.image v z) self.old }
+        ensures value { held self.new ≡ with_image (image-rules.set_variable (held self.old).image v z) (held self.old) }
+        ensures same { Same self.old self.new }
     {
         variables::set(self.image, v, z);
     }

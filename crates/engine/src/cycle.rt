@@ -7,6 +7,7 @@ ghost use Rattle.rules.specs.Search as search-rules;
 ghost use Rattle.rules.specs.Fire.{levels};
 ghost use Rattle.rules.specs.Run as rules;
 ghost use Rattle.chart.specs.Read.{block_of, instruction_from};
+ghost use Rattle.doing.specs.Held.{held, Same};
 ghost use Rattle.doing.specs.Outcomes.{outcome_of};
 ghost use Rattle.engine.specs.Told as told;
 ghost use Rattle.engine.specs.Told.{path_after, found_of, list_of};
@@ -53,7 +54,7 @@ struct Turn {
 
 // Whether the owner of a block is not there any more after a send.
 fn gone(now: &Now, owner: StateNo) -> bool
-    ensures { result ≡ block-rules.gone owner.0 now.now.image }
+    ensures { result ≡ block-rules.gone owner.0 (held now.now).image }
 {
     !now.is_active(owner)
 }
@@ -61,7 +62,8 @@ fn gone(now: &Now, owner: StateNo) -> bool
 // State b is run at once with that event, if it is active; otherwise nothing. So many sends more can be opened.
 #[cycle(running_and_sending)]
 fn send(chart: &Chart, now: &mut Now, sends: u8, event: u8, b: StateNo) -> Result<(), Refusal>
-    ensures { outcome_of result now.new ≡ rules.send chart.now sends event b.0 now.old }
+    ensures came { outcome_of result (held now.new) ≡ rules.send chart.now sends event b.0 (held now.old) }
+    ensures same { Same now.old now.new }
 {
     if !now.is_active(b) {
         return Ok(());
@@ -81,7 +83,8 @@ fn send_from(
     part: &[u8],
     place: u32,
 ) -> Result<bool, Refusal>
-    ensures { outcome_of result now.new ≡ told.paid_send chart.now turn.sends turn.state.0 (instruction_from part.now place) now.old }
+    ensures came { outcome_of result (held now.new) ≡ told.paid_send chart.now turn.sends turn.state.0 (instruction_from part.now place) (held now.old) }
+    ensures same { Same now.old now.new }
 {
     now.pay()?;
     let event = instructions::a_at(part, place);
@@ -93,7 +96,8 @@ fn send_from(
 // A block that can send; whether the rest of it and of the turn is abandoned.
 #[cycle(running_and_sending)]
 fn block(chart: &Chart, now: &mut Now, turn: Turn, block: Block) -> Result<bool, Refusal>
-    ensures { outcome_of result now.new ≡ told.acted chart.now turn.sends turn.state.0 (block_of block) now.old }
+    ensures came { outcome_of result (held now.new) ≡ told.acted chart.now turn.sends turn.state.0 (block_of block) (held now.old) }
+    ensures same { Same now.old now.new }
 {
     if block.count == 0 {
         return Ok(false);
@@ -116,7 +120,8 @@ fn block(chart: &Chart, now: &mut Now, turn: Turn, block: Block) -> Result<bool,
 // A segment that passes: its item, then its condition action; whether the turn is abandoned.
 #[cycle(running_and_sending)]
 fn pass(chart: &Chart, now: &mut Now, turn: Turn, t: SegmentNo) -> Result<bool, Refusal>
-    ensures { outcome_of result now.new ≡ told.passing chart.now turn.sends turn.state.0 t.0 now.old }
+    ensures came { outcome_of result (held now.new) ≡ told.passing chart.now turn.sends turn.state.0 t.0 (held now.old) }
+    ensures same { Same now.old now.new }
 {
     now.note(Item::Passed(t))?;
     block(chart, now, turn, chart.condition_action(t))
@@ -132,7 +137,8 @@ fn attempt(
     path: &mut Path,
     t: SegmentNo,
 ) -> Result<Tried, Refusal>
-    ensures came { outcome_of result now.new ≡ told.tried chart.now turn.sends turn.event turn.state.0 (128 - length path.old) t.0 now.old }
+    ensures came { outcome_of result (held now.new) ≡ told.tried chart.now turn.sends turn.event turn.state.0 (128 - length path.old) t.0 (held now.old) }
+    ensures same { Same now.old now.new }
     ensures path { IfOk result (λ came. path.new ≡ path_after came path.old t.0) }
 {
     if !passing::passes(chart, now, turn.event, t)? {
@@ -156,7 +162,8 @@ fn search(
     first: SegmentNo,
 ) -> Result<Found, Refusal>
     requires { path.old ≡ [] }
-    ensures { found_of result path.new now.new ≡ search-rules.search chart.now (rules.send chart.now turn.sends) turn.event turn.state.0 (first.0 ∷ told.later chart.now first.0) now.old }
+    ensures came { found_of result path.new (held now.new) ≡ search-rules.search chart.now (rules.send chart.now turn.sends) turn.event turn.state.0 (first.0 ∷ told.later chart.now first.0) (held now.old) }
+    ensures same { Same now.old now.new }
 {
     let mut next = Some(first);
     let found = 'search: loop {
@@ -186,7 +193,8 @@ fn search(
 // The segments of an edge of the state are searched from the first on, and a path to a state is fired; whether the turn is over.
 #[cycle(running_and_sending)]
 fn edge(chart: &Chart, now: &mut Now, turn: Turn, first: Option<SegmentNo>) -> Result<bool, Refusal>
-    ensures { outcome_of result now.new ≡ told.followed chart.now turn.sends turn.event turn.state.0 (list_of chart.now first) now.old }
+    ensures came { outcome_of result (held now.new) ≡ told.followed chart.now turn.sends turn.event turn.state.0 (list_of chart.now first) (held now.old) }
+    ensures same { Same now.old now.new }
 {
     let Some(first) = first else {
         return Ok(false);
@@ -205,7 +213,8 @@ fn edge(chart: &Chart, now: &mut Now, turn: Turn, first: Option<SegmentNo>) -> R
 // A state has its turn: outer segments, during action, inner segments; whether its run is over, so that no child is run.
 #[cycle(running_and_sending)]
 fn alone(chart: &Chart, now: &mut Now, turn: Turn) -> Result<bool, Refusal>
-    ensures { outcome_of result now.new ≡ told.run_alone chart.now turn.sends turn.event turn.state.0 now.old }
+    ensures came { outcome_of result (held now.new) ≡ told.run_alone chart.now turn.sends turn.event turn.state.0 (held now.old) }
+    ensures same { Same now.old now.new }
 {
     now.pay()?;
     let outer = chart.first(Source::Outer(turn.state));
@@ -218,7 +227,8 @@ fn alone(chart: &Chart, now: &mut Now, turn: Turn) -> Result<bool, Refusal>
 // What follows where no outer segment reached a state: the during action, then the inner segments; whether the run is over.
 #[cycle(running_and_sending)]
 fn inside(chart: &Chart, now: &mut Now, turn: Turn) -> Result<bool, Refusal>
-    ensures { outcome_of result now.new ≡ told.inside_alone chart.now turn.sends turn.event turn.state.0 now.old }
+    ensures came { outcome_of result (held now.new) ≡ told.inside_alone chart.now turn.sends turn.event turn.state.0 (held now.old) }
+    ensures same { Same now.old now.new }
 {
     now.note(Item::During(turn.state))?;
     if block(chart, now, turn, chart.during(turn.state))? {
@@ -231,7 +241,8 @@ fn inside(chart: &Chart, now: &mut Now, turn: Turn) -> Result<bool, Refusal>
 // A state is run, and then what is active below it, each when its turn comes.
 #[cycle(running_and_sending)]
 pub fn run(chart: &Chart, now: &mut Now, sends: u8, event: u8, top: StateNo) -> Result<(), Refusal>
-    ensures { outcome_of result now.new ≡ rules.run chart.now (rules.send chart.now sends) event levels top.0 now.old }
+    ensures came { outcome_of result (held now.new) ≡ rules.run chart.now (rules.send chart.now sends) event levels top.0 (held now.old) }
+    ensures same { Same now.old now.new }
 {
     let h = chart.header();
     let mut next = Some(Place {

@@ -1,6 +1,7 @@
 // A step of a lift: the start, or the root is run.
 ghost use Rattle.std.specs.Prelude.{◌≡◌};
 ghost use Rattle.rules.specs.Run as rules;
+ghost use Rattle.doing.specs.Held.{held, Same};
 ghost use Rattle.doing.specs.Outcomes.{outcome_of};
 
 use crate::cycle;
@@ -15,13 +16,15 @@ const SENDS: u8 = 8;
 
 // If not started, the root is entered; the event is used up.
 fn start(chart: &Chart, now: &mut Now) -> Result<(), Refusal>
-    ensures { outcome_of result now.new ≡ rules.start chart.now now.old }
+    ensures came { outcome_of result (held now.new) ≡ rules.start chart.now (held now.old) }
+    ensures same { Same now.old now.new }
 {
     entering::enter(chart, now, StateNo::LEVELS, StateNo(0), StateNo(0))
 }
 
 pub fn step(chart: &Chart, now: &mut Now, event: u8) -> Result<(), Refusal>
-    ensures { outcome_of result now.new ≡ rules.step chart.now event now.old }
+    ensures came { outcome_of result (held now.new) ≡ rules.step chart.now event (held now.old) }
+    ensures same { Same now.old now.new }
 {
     if now.not_started() {
         return start(chart, now);

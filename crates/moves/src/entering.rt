@@ -1,6 +1,7 @@
 // Entering: active, the entry action, then the children.
 ghost use Rattle.std.specs.Prelude.{◌≡◌};
 ghost use Rattle.rules.specs.Fire as rules;
+ghost use Rattle.doing.specs.Held.{held, Same};
 ghost use Rattle.doing.specs.Outcomes.{outcome_of};
 ghost use Rattle.moves.specs.Steps.{named, arriving, chosen_child};
 
@@ -22,7 +23,7 @@ fn on_the_way(chart: &Chart, s: StateNo, target: StateNo) -> Option<StateNo>
 
 // Of a one-of state: the child on the way, else the recorded one, which is 0 in the image where there is none, else initial.
 fn chosen(chart: &Chart, now: &Now, s: StateNo, target: StateNo) -> StateNo
-    ensures { result.0 ≡ chosen_child chart.now s.0 target.0 now.now.image }
+    ensures { result.0 ≡ chosen_child chart.now s.0 target.0 (held now.now).image }
 {
     if let Some(aimed) = on_the_way(chart, s, target) {
         return aimed;
@@ -36,7 +37,8 @@ fn chosen(chart: &Chart, now: &Now, s: StateNo, target: StateNo) -> StateNo
 
 // What comes before its children are entered.
 fn arrive(chart: &Chart, now: &mut Now, s: StateNo) -> Result<(), Refusal>
-    ensures { outcome_of result now.new ≡ arriving chart.now s.0 now.old }
+    ensures came { outcome_of result (held now.new) ≡ arriving chart.now s.0 (held now.old) }
+    ensures same { Same now.old now.new }
 {
     now.pay()?;
     now.activate(s);
@@ -53,7 +55,8 @@ pub fn enter(
     target: StateNo,
     s: StateNo,
 ) -> Result<(), Refusal>
-    ensures { outcome_of result now.new ≡ rules.enter chart.now depth target.0 s.0 now.old }
+    ensures came { outcome_of result (held now.new) ≡ rules.enter chart.now depth target.0 s.0 (held now.old) }
+    ensures same { Same now.old now.new }
 {
     if depth == 0 {
         return Ok(());
@@ -71,7 +74,8 @@ pub fn enter_children(
     target: StateNo,
     s: StateNo,
 ) -> Result<(), Refusal>
-    ensures { outcome_of result now.new ≡ rules.enter_each chart.now (rules.enter chart.now depth target.0) target.0 s.0 now.old }
+    ensures came { outcome_of result (held now.new) ≡ rules.enter_each chart.now (rules.enter chart.now depth target.0) target.0 s.0 (held now.old) }
+    ensures same { Same now.old now.new }
 {
     if chart.is_one_of(s) {
         let k = chosen(chart, now, s, target);

@@ -2,6 +2,7 @@
 ghost use Rattle.std.specs.Prelude.{◌≡◌};
 ghost use Rattle.rules.specs.Doing.{each};
 ghost use Rattle.rules.specs.Fire as rules;
+ghost use Rattle.doing.specs.Held.{held, Same};
 ghost use Rattle.doing.specs.Outcomes.{outcome_of};
 
 use crate::{arena, entering, leaving};
@@ -14,7 +15,8 @@ use rules::refusals::Refusal;
 
 // A segment's transition action, after its item.
 fn transit(chart: &Chart, now: &mut Now, t: SegmentNo) -> Result<(), Refusal>
-    ensures { outcome_of result now.new ≡ rules.transit chart.now t.0 now.old }
+    ensures came { outcome_of result (held now.new) ≡ rules.transit chart.now t.0 (held now.old) }
+    ensures same { Same now.old now.new }
 {
     now.note(Item::Transition(t))?;
     action::perform(chart, chart.transition_action(t), now)
@@ -22,7 +24,8 @@ fn transit(chart: &Chart, now: &mut Now, t: SegmentNo) -> Result<(), Refusal>
 
 // Those of a path, in path order.
 fn transit_path(chart: &Chart, now: &mut Now, path: &[u16]) -> Result<(), Refusal>
-    ensures { outcome_of result now.new ≡ each (rules.transit chart.now) path.now now.old }
+    ensures came { outcome_of result (held now.new) ≡ each (rules.transit chart.now) path.now (held now.old) }
+    ensures same { Same now.old now.new }
 {
     for t in path {
         transit(chart, now, SegmentNo(*t))?;
@@ -38,7 +41,8 @@ pub fn fire(
     target: StateNo,
     path: &[u16],
 ) -> Result<(), Refusal>
-    ensures { outcome_of result now.new ≡ rules.fire chart.now source.0 target.0 path.now now.old }
+    ensures came { outcome_of result (held now.new) ≡ rules.fire chart.now source.0 target.0 path.now (held now.old) }
+    ensures same { Same now.old now.new }
 {
     let ground = arena::arena(chart, source, target, path);
     leaving::leave_children(chart, now, StateNo::LEVELS, ground)?;

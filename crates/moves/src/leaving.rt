@@ -4,6 +4,7 @@ ghost use Rattle.rules.specs.Chart as fields_of;
 ghost use Rattle.rules.specs.Image.{is_active};
 ghost use Rattle.rules.specs.Doing.{went};
 ghost use Rattle.rules.specs.Fire as rules;
+ghost use Rattle.doing.specs.Held.{held, Same};
 ghost use Rattle.doing.specs.Outcomes.{outcome_of};
 ghost use Rattle.moves.specs.Steps.{departing};
 
@@ -17,7 +18,8 @@ use rules::refusals::Refusal;
 
 // A history parent records s.
 fn remember(chart: &Chart, now: &mut Now, s: StateNo)
-    ensures { went tt now.new ≡ rules.parent_records chart.now s.0 now.old }
+    ensures came { went tt (held now.new) ≡ rules.parent_records chart.now s.0 (held now.old) }
+    ensures same { Same now.old now.new }
 {
     let p = chart.parent(s);
     if chart.keeps_history(p) {
@@ -27,7 +29,8 @@ fn remember(chart: &Chart, now: &mut Now, s: StateNo)
 
 // What is left to do once its children are left.
 fn depart(chart: &Chart, now: &mut Now, s: StateNo) -> Result<(), Refusal>
-    ensures { outcome_of result now.new ≡ departing chart.now s.0 now.old }
+    ensures came { outcome_of result (held now.new) ≡ departing chart.now s.0 (held now.old) }
+    ensures same { Same now.old now.new }
 {
     action::perform(chart, chart.exit(s), now)?;
     remember(chart, now, s);
@@ -44,7 +47,8 @@ pub fn is_active_child(chart: &Chart, image: &[u8], k: StateNo, s: StateNo) -> b
 // A state is left: depth is how many levels it can have, itself and those below.
 #[cycle(leave_leave_children)]
 fn leave(chart: &Chart, now: &mut Now, depth: u8, s: StateNo) -> Result<(), Refusal>
-    ensures { outcome_of result now.new ≡ rules.leave chart.now depth s.0 now.old }
+    ensures came { outcome_of result (held now.new) ≡ rules.leave chart.now depth s.0 (held now.old) }
+    ensures same { Same now.old now.new }
 {
     if depth == 0 {
         return Ok(());
@@ -57,7 +61,8 @@ fn leave(chart: &Chart, now: &mut Now, depth: u8, s: StateNo) -> Result<(), Refu
 // The active children of s, the highest number first: depth is how many levels each can have.
 #[cycle(leave_leave_children)]
 pub fn leave_children(chart: &Chart, now: &mut Now, depth: u8, s: StateNo) -> Result<(), Refusal>
-    ensures { outcome_of result now.new ≡ rules.leave_each chart.now (rules.leave chart.now depth) s.0 now.old }
+    ensures came { outcome_of result (held now.new) ≡ rules.leave_each chart.now (rules.leave chart.now depth) s.0 (held now.old) }
+    ensures same { Same now.old now.new }
 {
     for n in (1..chart.header().states).rev() {
         let k = StateNo(n);

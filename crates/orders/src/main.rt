@@ -3,6 +3,8 @@
 // next one has the active states and the recorded children.
 #![tactic(auto)]
 
+ghost use Rattle.doing.specs.Held.{Same};
+
 mod building; // the chart
 mod telling; // what is printed
 
@@ -16,19 +18,27 @@ use std::io;
 
 const ROOT: StateNo = StateNo(0);
 
-fn enter_root(chart: &Chart, now: &mut Now) -> Result<(), Refusal> {
+fn enter_root(chart: &Chart, now: &mut Now) -> Result<(), Refusal>
+    ensures { Same now.old now.new }
+{
     entering::enter(chart, now, StateNo::LEVELS, ROOT, ROOT)
 }
 
-fn fire(chart: &Chart, now: &mut Now, source: u8, target: u8, path: &[u16]) -> Result<(), Refusal> {
+fn fire(chart: &Chart, now: &mut Now, source: u8, target: u8, path: &[u16]) -> Result<(), Refusal>
+    ensures { Same now.old now.new }
+{
     firing::fire(chart, now, StateNo(source), StateNo(target), path)
 }
 
-fn leave_all(chart: &Chart, now: &mut Now) -> Result<(), Refusal> {
+fn leave_all(chart: &Chart, now: &mut Now) -> Result<(), Refusal>
+    ensures { Same now.old now.new }
+{
     leaving::leave_children(chart, now, StateNo::LEVELS, ROOT)
 }
 
-fn enter_all(chart: &Chart, now: &mut Now) -> Result<(), Refusal> {
+fn enter_all(chart: &Chart, now: &mut Now) -> Result<(), Refusal>
+    ensures { Same now.old now.new }
+{
     entering::enter_children(chart, now, StateNo::LEVELS, ROOT, ROOT)
 }
 
@@ -41,6 +51,7 @@ struct Run<'a> {
 
 impl<'a> Run<'a> {
     // Takes a step with so many units and with room for so many items, 32 at most, and tells what came of it.
+    // The step keeps the image and the trace that it is lent.
     fn within<F: FnOnce(&Chart, &mut Now) -> Result<(), Refusal>>(
         &mut self,
         rt: &impl Print,
@@ -49,7 +60,8 @@ impl<'a> Run<'a> {
         room: usize,
         step: F,
     ) -> io::Result<()>
-        requires { F.IsAlwaysCallable step }
+        requires callable { F.IsAlwaysCallable step }
+        requires keeps { (chart : _) (before : _) (r : _) (after : _) → F.post step chart before r after → Same before.now after.now }
     {
         let mut trace = [0u32; 32];
         let trace = &mut trace[..room.min(32)];
@@ -66,7 +78,8 @@ impl<'a> Run<'a> {
         what: &str,
         step: F,
     ) -> io::Result<()>
-        requires { F.IsAlwaysCallable step }
+        requires callable { F.IsAlwaysCallable step }
+        requires keeps { (chart : _) (before : _) (r : _) (after : _) → F.post step chart before r after → Same before.now after.now }
     {
         self.within(rt, what, 100, 32, step)
     }

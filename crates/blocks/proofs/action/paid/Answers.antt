@@ -2,8 +2,8 @@
 use Rattle.blocks.proofs.Performing.{unpaid, paid-for}
 use Rattle.blocks.proofs.action.paid.Goals as goal
 
-pub returns-in_err-pay : goal.returns-in_err-pay
-returns-in_err-pay c = unpaid _ _ _ _ c.pay.ensures.came c.in_err-pay.was _ c.from_residual.ensures.1
+pub returns-in_err-pay-clause-came : goal.returns-in_err-pay-clause-came
+returns-in_err-pay-clause-came c = unpaid _ _ _ _ c.pay.ensures.came c.in_err-pay.was _ c.from_residual.ensures.1
 
-pub returns : goal.returns
-returns c = paid-for _ _ _ _ c.pay.ensures.came c.in_ok-pay.was c.perform.ensures
+pub returns-clause-came : goal.returns-clause-came
+returns-clause-came c = paid-for _ _ _ _ c.pay.ensures.came c.in_ok-pay.was c.perform.ensures.came

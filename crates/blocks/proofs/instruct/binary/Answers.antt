@@ -9,14 +9,12 @@ use Rattle.blocks.proofs.instruct.binary.Goals as goal
 pub returns-in_err-value : goal.returns-in_err-value
 returns-in_err-value c = λ n i.
     binary-outside c.args.op i _ n
-    (to_z-of_z w32 c.pop-top.result (search rules) ∙ c.pop-top.ensures.value) c.pop-top.ensures.rest
-    (to_z-of_z w32 c.pop-lower.result (search rules) ∙ c.pop-lower.ensures.value) c.pop-lower.ensures.rest
+    (to_z-of_z w32 c.lower.result (search rules) ∙ c.lower.ensures) (to_z-of_z w32 c.top.result (search rules) ∙ c.top.ensures)
     c.combine.ensures c.ok_or.ensures.ok_part c.in_err-value.was c.ok_or.ensures.value _ _ c.from_residual.ensures.1
 
 pub returns : goal.returns
 returns c = λ n i.
     binary-is c.args.op i _ n
-    (to_z-of_z w32 c.pop-top.result (search rules) ∙ c.pop-top.ensures.value) c.pop-top.ensures.rest
-    (to_z-of_z w32 c.pop-lower.result (search rules) ∙ c.pop-lower.ensures.value) c.pop-lower.ensures.rest
-    c.combine.ensures c.ok_or.ensures.ok_part c.in_ok-value.was
+    (to_z-of_z w32 c.lower.result (search rules) ∙ c.lower.ensures) (to_z-of_z w32 c.top.result (search rules) ∙ c.top.ensures)
+    c.combine.ensures c.ok_or.ensures.ok_part c.in_ok-value.was c.take_off.ensures
     (rw (to_z-of_z w32 c.in_ok-value.value (search rules)) at c.push.ensures)

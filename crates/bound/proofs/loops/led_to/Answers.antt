@@ -1,8 +1,7 @@
--- The tests in a row, each of what was read: the start, the end, the start's flag, the end's number. Assumes nothing.
+-- The tests in a row, each of what was read: the start, its flag, the end, the end's number. Assumes nothing.
 use Rattle.std.proofs.Common.{rules}
 use Rattle.bound.proofs.Starting.{starts-elsewhere, starts-on, no-junction, ends-there, ends-on, on-state, not-flagged, past-junctions, flagged-on}
 use Rattle.bound.proofs.loops.led_to.Goals as goal
-use Rattle.bound.proofs.loops.led_to.Goals.{else-here-from-via-then-here-from+else-to-header, else-here-from-via-else-here-from}
 
 pub returns-in_default : goal.returns-in_default
 returns-in_default c =
@@ -14,6 +13,11 @@ returns-in_default-2 c =
     let off = starts-elsewhere c.args.chart.now c.args.t.0 c.source.ensures (λ j e. search rules) in
     no-junction c.args.chart.now c.args.t.0 c.args.here.now off
 
+pub returns-then-not-here-from : goal.returns-then-not-here-from
+returns-then-not-here-from c =
+    let from = starts-on c.args.chart.now c.args.t.0 c.source.ensures c.in-Some-Junction.is c.in-Some-Junction.field-0-is in
+    not-flagged c.args.chart.now c.args.t.0 c.args.here.now from c.if-not-here-from.true
+
 pub returns-in_default-end : goal.returns-in_default-end
 returns-in_default-end c =
     let on = ends-there c.args.chart.now c.args.t.0 c.end.ensures c.in_default-end.is in
@@ -24,13 +28,10 @@ returns-then-to-header c =
     let from = starts-on c.args.chart.now c.args.t.0 c.source.ensures c.in-Some-Junction.is c.in-Some-Junction.field-0-is in
     let to = ends-on c.args.chart.now c.args.t.0 c.end.ensures c.in-Junction.is in
     let inside = rw c.header.ensures at c.if-to-header.true in
-    flagged-on c.args.chart.now c.args.t.0 c.args.here.now from to c.if-here-from.true inside
+    flagged-on c.args.chart.now c.args.t.0 c.args.here.now from to c.if-not-here-from.false inside
 
-pub returns-else-here-from : goal.returns-else-here-from
-returns-else-here-from c =
+pub returns-else-to-header : goal.returns-else-to-header
+returns-else-to-header c =
     let from = starts-on c.args.chart.now c.args.t.0 c.source.ensures c.in-Some-Junction.is c.in-Some-Junction.field-0-is in
     let to = ends-on c.args.chart.now c.args.t.0 c.end.ensures c.in-Junction.is in
-    elim c.else-here-from.branch [
-      | else-here-from-via-then-here-from+else-to-header w ↦ past-junctions c.args.chart.now c.args.t.0 c.args.here.now from to (rw w.header.ensures at w.if-to-header.false)
-      | else-here-from-via-else-here-from w ↦ not-flagged c.args.chart.now c.args.t.0 c.args.here.now from to w.if-here-from.false
-    ]
+    past-junctions c.args.chart.now c.args.t.0 c.args.here.now from to (rw c.header.ensures at c.if-to-header.false)

@@ -13,13 +13,13 @@ use Rattle.doing.proofs.Sequels.{refused-ends, went-next}
 use Rattle.engine.specs.Told.{tested}
 use Rattle.engine.proofs.passing.passes.Goals as goal
 
-pub returns-in_err-pay : goal.returns-in_err-pay
+pub returns-in_err-pay-clause-came : goal.returns-in_err-pay-clause-came
 unfolding tested ◌>>◌
-returns-in_err-pay c = refused-ends _ _ c.pay.ensures.came c.in_err-pay.was _ _ c.from_residual.ensures.1
+returns-in_err-pay-clause-came c = refused-ends _ _ c.pay.ensures.came c.in_err-pay.was _ _ c.from_residual.ensures.1
 
-pub returns-then-wanted-eq0 : goal.returns-then-wanted-eq0
+pub returns-then-wanted-eq0-clause-came : goal.returns-then-wanted-eq0-clause-came
 unfolding tested ◌>>◌ passes when◌then◌else◌
-returns-then-wanted-eq0 c =
+returns-then-wanted-eq0-clause-came c =
     let wanted : (eqb (event c.args.chart.now c.args.t.0) 0 || eqb (event c.args.chart.now c.args.t.0) c.args.event) ≡ true =
     rw (sym c.event-wanted.ensures)
     (elim c.then-wanted-eq0.either [
@@ -27,11 +27,11 @@ returns-then-wanted-eq0 c =
       | inr own ↦ or_right _ _ (eq-eqb _ _ own.1)
     ])
     in
-    went-next _ _ c.pay.ensures.came c.in_ok-pay.was (rw wanted c.holds.ensures)
+    went-next _ _ c.pay.ensures.came c.in_ok-pay.was (rw wanted c.holds.ensures.came)
 
-pub returns : goal.returns
+pub returns-clause-came : goal.returns-clause-came
 unfolding tested ◌>>◌ passes when◌then◌else◌ give
-returns c =
+returns-clause-came c =
     let other : (eqb (event c.args.chart.now c.args.t.0) 0 || eqb (event c.args.chart.now c.args.t.0) c.args.event) ≡ false =
     rw (sym c.event-wanted.ensures) (or_no _ _ (ne_eqb _ _ c.if-wanted-eq0.false) (ne_eqb _ _ c.if-wanted-event.false))
     in

@@ -2,6 +2,6 @@
 use Rattle.rules.specs.Run as rules
 use Rattle.engine.proofs.stepping.start.Goals as goal
 
-pub returns : goal.returns
+pub returns-clause-came : goal.returns-clause-came
 unfolding rules.start
-returns c = c.enter.ensures
+returns-clause-came c = c.enter.ensures.came

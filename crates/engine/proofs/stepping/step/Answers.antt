@@ -4,10 +4,10 @@ use Rattle.rules.specs.Lists.{when◌then◌else◌}
 use Rattle.rules.specs.Run as rules
 use Rattle.engine.proofs.stepping.step.Goals as goal
 
-pub returns-then-not_started : goal.returns-then-not_started
+pub returns-then-not_started-clause-came : goal.returns-then-not_started-clause-came
 unfolding rules.step when◌then◌else◌
-returns-then-not_started c = rw (sym c.not_started.ensures, c.if-not_started.true) c.start.ensures
+returns-then-not_started-clause-came c = rw (sym c.not_started.ensures, c.if-not_started.true) c.start.ensures.came
 
-pub returns : goal.returns
+pub returns-clause-came : goal.returns-clause-came
 unfolding rules.step when◌then◌else◌
-returns c = rw (sym c.not_started.ensures, c.if-not_started.false) c.run.ensures
+returns-clause-came c = rw (sym c.not_started.ensures, c.if-not_started.false) c.run.ensures.came

@@ -3,13 +3,16 @@
 use Prim.Native.Nat.{◌+◌, ◌*◌}
 use Rattle.rules.specs.Chart.{children}
 use Rattle.rules.specs.Fire as rules
+use Rattle.doing.specs.Held.{held, Same}
 use Rattle.moves.proofs.Follows.{Turn}
 use Rattle.moves.proofs.Enters.{children_from}
 use Rattle.moves.proofs.entering.+enter_enter_children.Given as goal
 
 abbrev pub invariant-enter_children-loop-n : goal.invariant-enter_children-loop-n
-invariant-enter_children-loop-n l = Turn (rules.enter l.chart l.depth l.target.0) (children l.chart l.s.0) l.initial.now
-    (children_from l.chart l.s.0 l.n l.n-end) l.now
+invariant-enter_children-loop-n l =
+    (Turn (rules.enter l.chart l.depth l.target.0) (children l.chart l.s.0) (held l.initial.now)
+    (children_from l.chart l.s.0 l.n l.n-end) (held l.now))
+    × Same l.initial.now l.now
 
 abbrev pub decreases-enter : goal.decreases-enter
 decreases-enter l = 2 * l.depth

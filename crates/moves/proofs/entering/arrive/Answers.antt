@@ -6,16 +6,16 @@ use Rattle.rules.specs.Doing.{◌>>◌, change, state_entered}
 use Rattle.moves.specs.Steps.{arriving}
 use Rattle.moves.proofs.entering.arrive.Goals as goal
 
-pub returns-in_err-pay : goal.returns-in_err-pay
+pub returns-in_err-pay-clause-came : goal.returns-in_err-pay-clause-came
 unfolding arriving ◌>>◌
-returns-in_err-pay c = (refused-ends _ _ c.pay.ensures.came c.in_err-pay.was _ _ c.from_residual.ensures.1)
+returns-in_err-pay-clause-came c = (refused-ends _ _ c.pay.ensures.came c.in_err-pay.was _ _ c.from_residual.ensures.1)
 
-pub returns-in_err-note : goal.returns-in_err-note
+pub returns-in_err-note-clause-came : goal.returns-in_err-note-clause-came
 unfolding arriving ◌>>◌ change
-returns-in_err-note c = (went-next _ _ c.pay.ensures.came c.in_ok-pay.was (rw (← c.activate.ensures)
+returns-in_err-note-clause-came c = (went-next _ _ c.pay.ensures.came c.in_ok-pay.was (rw (← c.activate.ensures.value)
     (refused-ends _ _ (as-noted state_entered _ _ refl c.note.ensures.came) c.in_err-note.was _ _ c.from_residual-in_err-note.ensures.1)))
 
-pub returns : goal.returns
+pub returns-clause-came : goal.returns-clause-came
 unfolding arriving ◌>>◌ change
-returns c = (went-next _ _ c.pay.ensures.came c.in_ok-pay.was (rw (← c.activate.ensures)
-    (went-next _ _ (as-noted state_entered _ _ refl c.note.ensures.came) c.in_ok-note.was (rw c.entry.ensures at c.perform.ensures))))
+returns-clause-came c = (went-next _ _ c.pay.ensures.came c.in_ok-pay.was (rw (← c.activate.ensures.value)
+    (went-next _ _ (as-noted state_entered _ _ refl c.note.ensures.came) c.in_ok-note.was (rw c.entry.ensures at c.perform.ensures.came))))

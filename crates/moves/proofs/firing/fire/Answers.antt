@@ -5,17 +5,17 @@ use Rattle.rules.specs.Doing.{◌>>◌}
 use Rattle.rules.specs.Fire.{fire}
 use Rattle.moves.proofs.firing.fire.Goals as goal
 
-pub returns-in_err-leave_children : goal.returns-in_err-leave_children
+pub returns-in_err-leave_children-clause-came : goal.returns-in_err-leave_children-clause-came
 unfolding fire ◌>>◌
-returns-in_err-leave_children c = rw (sym c.arena-ground.ensures)
-    (refused-ends _ _ c.leave_children.ensures c.in_err-leave_children.was _ _ c.from_residual.ensures.1)
+returns-in_err-leave_children-clause-came c = rw (sym c.arena-ground.ensures)
+    (refused-ends _ _ c.leave_children.ensures.came c.in_err-leave_children.was _ _ c.from_residual.ensures.1)
 
-pub returns-in_err-transit_path : goal.returns-in_err-transit_path
+pub returns-in_err-transit_path-clause-came : goal.returns-in_err-transit_path-clause-came
 unfolding fire ◌>>◌
-returns-in_err-transit_path c = rw (sym c.arena-ground.ensures) (went-next _ _ c.leave_children.ensures c.in_ok-leave_children.was
-    (refused-ends _ _ c.transit_path.ensures c.in_err-transit_path.was _ _ c.from_residual-in_err-transit_path.ensures.1))
+returns-in_err-transit_path-clause-came c = rw (sym c.arena-ground.ensures) (went-next _ _ c.leave_children.ensures.came c.in_ok-leave_children.was
+    (refused-ends _ _ c.transit_path.ensures.came c.in_err-transit_path.was _ _ c.from_residual-in_err-transit_path.ensures.1))
 
-pub returns : goal.returns
+pub returns-clause-came : goal.returns-clause-came
 unfolding fire ◌>>◌
-returns c = rw (sym c.arena-ground.ensures) (went-next _ _ c.leave_children.ensures c.in_ok-leave_children.was
-    (went-next _ _ c.transit_path.ensures c.in_ok-transit_path.was c.enter_children.ensures))
+returns-clause-came c = rw (sym c.arena-ground.ensures) (went-next _ _ c.leave_children.ensures.came c.in_ok-leave_children.was
+    (went-next _ _ c.transit_path.ensures.came c.in_ok-transit_path.was c.enter_children.ensures.came))

@@ -6,10 +6,10 @@ use Rattle.rules.specs.Doing.{◌>>◌, transition_performed}
 use Rattle.rules.specs.Fire.{transit}
 use Rattle.moves.proofs.firing.transit.Goals as goal
 
-pub returns-in_err-note : goal.returns-in_err-note
+pub returns-in_err-note-clause-came : goal.returns-in_err-note-clause-came
 unfolding transit ◌>>◌
-returns-in_err-note c = refused-ends _ _ (as-noted transition_performed _ _ refl c.note.ensures.came) c.in_err-note.was _ _ c.from_residual.ensures.1
+returns-in_err-note-clause-came c = refused-ends _ _ (as-noted transition_performed _ _ refl c.note.ensures.came) c.in_err-note.was _ _ c.from_residual.ensures.1
 
-pub returns : goal.returns
+pub returns-clause-came : goal.returns-clause-came
 unfolding transit ◌>>◌
-returns c = went-next _ _ (as-noted transition_performed _ _ refl c.note.ensures.came) c.in_ok-note.was (rw (← c.transition_action.ensures) c.perform.ensures)
+returns-clause-came c = went-next _ _ (as-noted transition_performed _ _ refl c.note.ensures.came) c.in_ok-note.was (rw (← c.transition_action.ensures) c.perform.ensures.came)

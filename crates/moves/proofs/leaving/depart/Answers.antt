@@ -6,11 +6,11 @@ use Rattle.rules.specs.Doing.{◌>>◌, change, state_left}
 use Rattle.moves.specs.Steps.{departing}
 use Rattle.moves.proofs.leaving.depart.Goals as goal
 
-pub returns-in_err-perform : goal.returns-in_err-perform
+pub returns-in_err-perform-clause-came : goal.returns-in_err-perform-clause-came
 unfolding departing ◌>>◌
-returns-in_err-perform c = refused-ends _ _ (rw c.exit.ensures at c.perform.ensures) c.in_err-perform.was _ _ c.from_residual.ensures.1
+returns-in_err-perform-clause-came c = refused-ends _ _ (rw c.exit.ensures at c.perform.ensures.came) c.in_err-perform.was _ _ c.from_residual.ensures.1
 
-pub returns : goal.returns
+pub returns-clause-came : goal.returns-clause-came
 unfolding departing ◌>>◌ change
-returns c = went-next _ _ (rw c.exit.ensures at c.perform.ensures) c.in_ok-perform.was
-    (rw (← c.remember.ensures, ← c.deactivate.ensures) (as-noted state_left _ _ refl c.note.ensures.came))
+returns-clause-came c = went-next _ _ (rw c.exit.ensures at c.perform.ensures.came) c.in_ok-perform.was
+    (rw (← c.remember.ensures.came, ← c.deactivate.ensures.value) (as-noted state_left _ _ refl c.note.ensures.came))
